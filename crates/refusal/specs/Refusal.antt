@@ -1,0 +1,44 @@
+-- 01, "Numbers given back": the rows of a call, in its order, and the number that they give.
+-- Assumes nothing.
+use mathlib.Core.Path.{_≡_}
+use mathlib.Core.Bool.{Bool, true, false}
+use mathlib.Core.List.{List, [], _∷_, _++_}
+use mathlib.Core.Logic.{_⊎_}
+use Prim.Native.Nat.{ℕ}
+
+-- a row of the table: whether its condition holds, and its number
+pub record Row : Type 0 where
+  pub holds : Bool
+  pub number : ℕ
+
+-- "n when b"
+abbrev pub when : ℕ → Bool → Row
+when n b = record { holds = b; number = n }
+
+abbrev pub choose : {A : Type 0} → Bool → A → A → A
+choose true x y = x
+choose false x y = y
+
+-- the number of the first row that holds, or 0
+abbrev pub first : List Row → ℕ
+first [] = 0
+first (r ∷ rs) = choose (r .holds) (r .number) (first rs)
+
+-- no row of these holds
+unfoldable pub NoneHolds : List Row → Type 0
+NoneHolds [] = Unit {0}
+NoneHolds (r ∷ rs) = (r .holds ≡ false) × NoneHolds rs
+
+-- a row with this number holds, and no row before it does
+pub record Refused (n : ℕ) (rows : List Row) : Type 0 where
+  pub before : List Row
+  pub row : Row
+  pub after : List Row
+  pub place : rows ≡ before ++ (row ∷ after)
+  pub earlier : NoneHolds before
+  pub holds : row .holds ≡ true
+  pub given : row .number ≡ n
+
+-- "each is given exactly when its condition holds and no earlier one does": 0 where none holds
+abbrev pub Given : ℕ → List Row → Type 0
+Given n rows = ((n ≡ 0) × NoneHolds rows) ⊎ Refused n rows
