@@ -36,3 +36,7 @@ pub first-given : (rows : List Row) → Given (first rows) rows
 unfolding NoneHolds
 first-given [] = inl (refl, tt)
 first-given (r ∷ rs) = split-first r rs (first-given rs) (r .holds) refl
+
+-- both directions: a number is given exactly when its row is the first that holds
+pub exactly : (n : ℕ) (rows : List Row) → (Given n rows → first rows ≡ n) × (first rows ≡ n → Given n rows)
+exactly n rows = (given-first n rows, λ e. rw (← e) (first-given rows))

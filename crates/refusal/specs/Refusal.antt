@@ -4,7 +4,7 @@ use mathlib.Core.Path.{_≡_}
 use mathlib.Core.Bool.{Bool, true, false}
 use mathlib.Core.List.{List, [], _∷_, _++_}
 use mathlib.Core.Logic.{_⊎_}
-use Prim.Native.Nat.{ℕ}
+use Prim.Native.Nat.{ℕ, zero, suc}
 
 -- a row of the table: whether its condition holds, and its number
 pub record Row : Type 0 where
@@ -42,3 +42,20 @@ pub record Refused (n : ℕ) (rows : List Row) : Type 0 where
 -- "each is given exactly when its condition holds and no earlier one does": 0 where none holds
 abbrev pub Given : ℕ → List Row → Type 0
 Given n rows = ((n ≡ 0) × NoneHolds rows) ⊎ Refused n rows
+
+-- what a call gives: x where it is done, y where it is refused
+abbrev pub done : {A : Type 0} → ℕ → A → A → A
+done zero x y = x
+done (suc n) x y = y
+
+-- what a call that fills a lent buffer gives: its number, and the buffer's bytes
+pub record Filled : Type 0 where
+  pub number : ℕ
+  pub out : List ℕ
+
+abbrev pub filled : ℕ → List ℕ → Filled
+filled n o = record { number = n; out = o }
+
+-- new bytes where no row holds; a refusal leaves the old ones
+abbrev pub fills : List Row → List ℕ → List ℕ → Filled
+fills rows new old = filled (first rows) (done (first rows) new old)
