@@ -1,0 +1,34 @@
+-- 01, "1,024 marks of addresses in use in sixteen 64-bit words": the mark of address a is digit a % 64 of word a / 64.
+-- Assumes nothing.
+use mathlib.Core.Bool.{Bool, true, false}
+use mathlib.Core.List.{List}
+use Prim.Native.Nat.{ℕ, zero, suc, _+_, _-_, _/_, _%_, _^_}
+use lib.Bits.{bitAnd, bitOr}
+use lib.Dec.{eqb}
+use lib.ListN.{getD, set}
+use Rattle.refusal.specs.Refusal.{choose}
+use Rattle.state.specs.Sizes.{addresses}
+
+-- is the address in use
+unfoldable pub used : List ℕ → ℕ → Bool
+used ws a = eqb ((getD ws (a / 64) 0 / 2 ^ (a % 64)) % 2) 1
+
+-- the words with the mark of a set, and with it cleared
+unfoldable pub marked : List ℕ → ℕ → List ℕ
+marked ws a = set ws (a / 64) (bitOr (getD ws (a / 64) 0) (2 ^ (a % 64)))
+
+unfoldable pub unmarked : List ℕ → ℕ → List ℕ
+unmarked ws a = set ws (a / 64) (bitAnd (getD ws (a / 64) 0) (2 ^ 64 - 1 - 2 ^ (a % 64)))
+
+-- 01, Count: the number of set marks, here of those below n
+unfoldable pub countBelow : ℕ → List ℕ → ℕ
+countBelow zero ws = 0
+countBelow (suc n) ws = choose (used ws n) (countBelow n ws + 1) (countBelow n ws)
+
+unfoldable pub countOf : List ℕ → ℕ
+countOf ws = countBelow addresses ws
+
+-- 01, Lowest free: the smallest unmarked address, here among the k from a on; a + k where all are marked
+unfoldable pub lowestFrom : ℕ → ℕ → List ℕ → ℕ
+lowestFrom zero a ws = a
+lowestFrom (suc k) a ws = choose (used ws a) (lowestFrom k (suc a) ws) a

@@ -1,0 +1,111 @@
+-- 01: add, load, store and remove; look; lowest free. Each call's refusals are its rows of the numbers' table, in the table's order.
+-- Over the stamp's width w and the tag. Assumes nothing.
+use mathlib.Core.Bool.{Bool, true, false, not}
+use mathlib.Core.List.{List, [], _∷_}
+use Prim.Native.Nat.{ℕ}
+use lib.Dec.{eqb, ltb}
+use lib.ListN.{length, replicate}
+use Rattle.refusal.specs.Refusal.{Row, when, first, done}
+use Rattle.state.specs.Sizes.{addresses, valueSize, storeSize, ceiling}
+use Rattle.state.specs.Marks.{used, marked, unmarked, lowestFrom}
+use Rattle.state.specs.Cells.{Entry, valueAt, entryAt, writeCell, writeEntry}
+use Rattle.state.specs.Step.{Event, took, put, answered, set, dropped, Seen, seen, Step, step, withMarks, next, takeEntry, putEntry}
+use Rattle.state.specs.declared.State.{State}
+use Rattle.state.specs.declared.Verdict.{Verdict}
+use Rattle.state.specs.declared.Verdict.the-variants.{Nothing}
+use Rattle.state.specs.declared.Free.{Free}
+use Rattle.state.specs.declared.Free.the-variants.{At, Full}
+
+-- the rows
+abbrev pub shutRow : State → Row
+shutRow s = when 7 (s .closed)
+
+abbrev pub storeRow : ℕ → List ℕ → Row
+storeRow w m = when 1 (not (eqb (length m) (storeSize w)))
+
+abbrev pub addressRow : ℕ → Row
+addressRow a = when 2 (not (ltb a addresses))
+
+abbrev pub bufferRow : List ℕ → Row
+bufferRow b = when 3 (not (eqb (length b) valueSize))
+
+abbrev pub takenRow : State → ℕ → Row
+takenRow s a = when 4 (used (s .marks) a)
+
+abbrev pub absentRow : State → ℕ → Row
+absentRow s a = when 5 (not (used (s .marks) a))
+
+abbrev pub clockRow : ℕ → State → Row
+clockRow w s = when 6 (eqb (s .clock) (ceiling w))
+
+-- each call's, in order; b is the value given or the out buffer lent
+unfoldable pub addRows : ℕ → State → List ℕ → ℕ → List ℕ → List Row
+addRows w s m a b = shutRow s ∷ storeRow w m ∷ addressRow a ∷ bufferRow b ∷ takenRow s a ∷ clockRow w s ∷ []
+
+-- load's and store's
+unfoldable pub useRows : ℕ → State → List ℕ → ℕ → List ℕ → List Row
+useRows w s m a b = shutRow s ∷ storeRow w m ∷ addressRow a ∷ bufferRow b ∷ absentRow s a ∷ clockRow w s ∷ []
+
+unfoldable pub removeRows : ℕ → State → List ℕ → ℕ → List Row
+removeRows w s m a = shutRow s ∷ storeRow w m ∷ addressRow a ∷ absentRow s a ∷ []
+
+unfoldable pub lookRows : ℕ → List ℕ → ℕ → List Row
+lookRows w m a = storeRow w m ∷ addressRow a ∷ []
+
+-- a call of these rows: what it gives where it is done; where it is refused nothing has changed
+unfoldable pub call : List Row → State → List ℕ → List ℕ → Step → Step
+call rows s m o x = done (first rows) x (step (seen (first rows) Nothing s m o) [])
+
+module _ (w : ℕ) (tag : List ℕ → Entry → List ℕ) where
+  -- Add: put; mark in use
+  unfoldable pub added : State → List ℕ → ℕ → List ℕ → Step
+  added s m a v =
+      let e = next s a v in
+      step (seen 0 Nothing (withMarks (putEntry tag s e) (marked (s .marks) a)) (writeEntry w m e) []) (put e ∷ set a v ∷ [])
+
+  unfoldable pub addOf : State → List ℕ → ℕ → List ℕ → Step
+  addOf s m a v = call (addRows w s m a v) s m [] (added s m a v)
+
+  -- Load: take, put the same value back, copy it out
+  unfoldable pub loaded : State → List ℕ → ℕ → Step
+  loaded s m a =
+      let v = valueAt w m a in
+      let t = takeEntry tag s (entryAt w m a) in
+      let e = next t a v in
+      step (seen 0 Nothing (putEntry tag t e) (writeEntry w m e) v) (took (entryAt w m a) ∷ put e ∷ answered a v ∷ [])
+
+  unfoldable pub loadOf : State → List ℕ → ℕ → List ℕ → Step
+  loadOf s m a o = call (useRows w s m a o) s m o (loaded s m a)
+
+  -- Store: take, put the new value
+  unfoldable pub stored : State → List ℕ → ℕ → List ℕ → Step
+  stored s m a v =
+      let t = takeEntry tag s (entryAt w m a) in
+      let e = next t a v in
+      step (seen 0 Nothing (putEntry tag t e) (writeEntry w m e) []) (took (entryAt w m a) ∷ put e ∷ set a v ∷ [])
+
+  unfoldable pub storeOf : State → List ℕ → ℕ → List ℕ → Step
+  storeOf s m a v = call (useRows w s m a v) s m [] (stored s m a v)
+
+  -- Remove: take; fill the cell with zeros; clear the mark. The clock stays
+  unfoldable pub removed : State → List ℕ → ℕ → Step
+  removed s m a =
+      let t = takeEntry tag s (entryAt w m a) in
+      step (seen 0 Nothing (withMarks t (unmarked (s .marks) a)) (writeCell w m a (replicate valueSize 0) 0) []) (took (entryAt w m a) ∷ dropped a ∷ [])
+
+  unfoldable pub removeOf : State → List ℕ → ℕ → Step
+  removeOf s m a = call (removeRows w s m a) s m [] (removed s m a)
+
+-- Look: the value's bytes in the store, or no bytes
+unfoldable pub lookOf : ℕ → List ℕ → ℕ → List ℕ
+lookOf w m a = done (first (lookRows w m a)) (valueAt w m a) []
+
+-- Lowest free, and the numbers of its answers
+unfoldable pub lowestOf : List ℕ → Free
+lowestOf ws =
+    let a = lowestFrom addresses 0 ws in
+    done (first (when 9 (eqb a addresses) ∷ [])) (At a) Full
+
+unfoldable pub freeNumber : Free → ℕ
+freeNumber (At a) = 0
+freeNumber Full = 9

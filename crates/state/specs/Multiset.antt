@@ -1,0 +1,41 @@
+-- 01, "The multiset hash": definition 4.4 of source document 001, less its nonce.
+-- Assumes nothing.
+use mathlib.Core.Bool.{Bool, true, false, _&&_}
+use mathlib.Core.List.{List, [], _∷_, _++_, map}
+use Prim.Native.Nat.{ℕ, _+_, _%_, _^_}
+use lib.Dec.{eqb}
+use lib.ListN.{length, replicate}
+use Rattle.octets.specs.Layout.{bytes}
+use Rattle.octets.specs.Places.{xor}
+use Rattle.state.specs.Cells.{Entry}
+use Rattle.state.specs.declared.Hash.{Hash}
+
+-- an entry's message: 01, the address in 2 bytes, the value, the stamp in w bytes
+unfoldable pub message : ℕ → Entry → List ℕ
+message w e = 1 ∷ (bytes 2 (e .address) ++ (e .value ++ bytes w (e .stamp)))
+
+-- the exclusive-or of some tags: 32 zero bytes for none
+unfoldable pub xorAll : List (List ℕ) → List ℕ
+xorAll [] = replicate 32 0
+xorAll (t ∷ ts) = xor (xorAll ts) t
+
+-- the hash of a multiset of entries, listed in any order: of all their tags, each as often as its entry occurs, with the number of elements modulo 2^32
+unfoldable pub hash : (Entry → List ℕ) → List Entry → Hash
+hash tag es = record { tag = xorAll (map tag es); number = length es % 2 ^ 32 }
+
+unfoldable pub emptyHash : Hash
+emptyHash = record { tag = replicate 32 0; number = 0 }
+
+-- a hash with one element more, by its tag
+unfoldable pub withTag : Hash → List ℕ → Hash
+withTag h t = record { tag = xor (h .tag) t; number = (h .number + 1) % 2 ^ 32 }
+
+-- are two lists equal, and two hashes: when tags and numbers both are
+unfoldable pub same : List ℕ → List ℕ → Bool
+same [] [] = true
+same [] (y ∷ ys) = false
+same (x ∷ xs) [] = false
+same (x ∷ xs) (y ∷ ys) = eqb x y && same xs ys
+
+unfoldable pub sameHash : Hash → Hash → Bool
+sameHash p q = same (p .tag) (q .tag) && eqb (p .number) (q .number)

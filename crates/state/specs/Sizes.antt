@@ -1,0 +1,28 @@
+-- 01, "Sizes", over the stamp's width in bytes, w. They stay shut, so that nothing counts up to them.
+-- Assumes nothing.
+use Prim.Native.Nat.{ℕ, _+_, _*_, _-_, _^_}
+
+-- the stamp's width today: the one place that sets it
+abbrev pub width : ℕ
+width = 2
+
+unfoldable pub keySize : ℕ
+keySize = 32
+
+unfoldable pub addresses : ℕ
+addresses = 1024
+
+unfoldable pub valueSize : ℕ
+valueSize = 28
+
+unfoldable pub cellSize : ℕ → ℕ
+unfolding valueSize
+cellSize w = valueSize + w
+
+unfoldable pub storeSize : ℕ → ℕ
+unfolding addresses cellSize
+storeSize w = cellSize w * addresses
+
+-- the last clock
+unfoldable pub ceiling : ℕ → ℕ
+ceiling w = 256 ^ w - 1

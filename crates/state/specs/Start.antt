@@ -1,0 +1,30 @@
+-- 01, Start, and number 8.
+-- Assumes nothing.
+use mathlib.Core.Bool.{Bool, true, false, not}
+use mathlib.Core.List.{List, [], _∷_}
+use Prim.Native.Nat.{ℕ}
+use lib.Dec.{eqb}
+use lib.ListN.{length, replicate}
+use Rattle.refusal.specs.Refusal.{when, first, done}
+use Rattle.state.specs.Sizes.{keySize}
+use Rattle.state.specs.Multiset.{emptyHash}
+use Rattle.state.specs.declared.State.{State}
+use Rattle.state.specs.declared.Started.{Started}
+
+-- hashes empty, clock 0, no marks
+unfoldable pub fresh : List ℕ → Bool → State
+unfolding emptyHash
+fresh k c = record { key = k; put = emptyHash; take = emptyHash; clock = 0; fault = false; closed = c; marks = replicate 16 0 }
+
+-- the closed state with all else zero
+unfoldable pub none : State
+unfolding fresh keySize
+none = fresh (replicate keySize 0) true
+
+abbrev pub started : ℕ → State → Started
+started n s = record { number = n; state = s }
+
+unfoldable pub startOf : List ℕ → Started
+startOf k =
+    let n = first (when 8 (not (eqb (length k) keySize)) ∷ []) in
+    started n (done n (fresh k false) none)

@@ -1,0 +1,63 @@
+-- 01, "The trusted state and the moves": take and put, and what a call gives. The tag is a parameter: `tag key entry`.
+-- Assumes nothing.
+use mathlib.Core.Bool.{Bool, true, _||_}
+use mathlib.Core.List.{List}
+use Prim.Native.Nat.{ℕ, _+_}
+use lib.Dec.{ltb}
+use Rattle.state.specs.Cells.{Entry, entry}
+use Rattle.state.specs.Multiset.{withTag}
+use Rattle.state.specs.declared.State.{State}
+use Rattle.state.specs.declared.Verdict.{Verdict}
+
+-- what a call did, in order, for definitions only: entries taken and put, a load answered with a value, a value added or stored, an address removed,
+-- a check that accepted
+pub data Event : Type 0 where
+  took : Entry → Event
+  put : Entry → Event
+  answered : ℕ → List ℕ → Event
+  set : ℕ → List ℕ → Event
+  dropped : ℕ → Event
+  accepted : Event
+
+-- what the caller has after a call: its number, the verdict, the state, the bytes of the lent store and of the lent out buffer (none: no bytes)
+pub record Seen : Type 0 where
+  pub number : ℕ
+  pub verdict : Verdict
+  pub state : State
+  pub store : List ℕ
+  pub out : List ℕ
+
+abbrev pub seen : ℕ → Verdict → State → List ℕ → List ℕ → Seen
+seen n v s m o = record { number = n; verdict = v; state = s; store = m; out = o }
+
+pub record Step : Type 0 where
+  pub seen : Seen
+  pub events : List Event
+
+abbrev pub step : Seen → List Event → Step
+step x es = record { seen = x; events = es }
+
+-- the state with other marks
+unfoldable pub withMarks : State → List ℕ → State
+withMarks s ws =
+    record { key = s .key; put = s .put; take = s .take; clock = s .clock; fault = s .fault; closed = s .closed; marks = ws }
+
+-- the state, closed
+unfoldable pub shut : State → State
+shut s =
+    record { key = s .key; put = s .put; take = s .take; clock = s .clock; fault = s .fault; closed = true; marks = s .marks }
+
+-- the entry that a put of v at a makes: its stamp is the clock, raised by 1
+unfoldable pub next : State → ℕ → List ℕ → Entry
+next s a v = entry a v (s .clock + 1)
+
+module _ (tag : List ℕ → Entry → List ℕ) where
+  -- Take of the entry read: a stamp above the clock sets the fault mark; the entry is added to the take hash in either case
+  unfoldable pub takeEntry : State → Entry → State
+  takeEntry s e =
+      record { key = s .key; put = s .put; take = withTag (s .take) (tag (s .key) e); clock = s .clock; fault = s .fault || ltb (s .clock) (e .stamp); closed = s .closed; marks = s .marks }
+
+  -- Put of an entry, whose stamp the clock becomes: it is added to the put hash
+  unfoldable pub putEntry : State → Entry → State
+  putEntry s e =
+      record { key = s .key; put = withTag (s .put) (tag (s .key) e); take = s .take; clock = e .stamp; fault = s .fault; closed = s .closed; marks = s .marks }
