@@ -1,0 +1,42 @@
+-- The rounds, from what the calls of a round and of a turn give: each result is replaced by what it equals.
+-- Assumes nothing.
+use mathlib.Core.Path.{_≡_, sym, ap, _∙_}
+use mathlib.Core.List.{List, [], _∷_}
+use Prim.Native.Nat.{ℕ, suc, _+_}
+use native.Mathlib.Omega.{arith}
+use lib.ListN.{getD}
+use Rattle.constants.specs.Constants.{K}
+use Rattle.compress.specs.Compress.{_⊞_, Ch, Maj, Σ0, Σ1, round, rounds}
+
+pub round-calls : (s : List ℕ) (k w x1 x2 x3 x4 x5 t1 y1 y2 t2 a e : ℕ) → x1 ≡ Σ1 (getD s 4 0) → x2 ≡ getD s 7 0 ⊞ x1 → x3 ≡ Ch (getD s 4 0) (getD s 5 0) (getD s 6 0)
+    → x4 ≡ x2 ⊞ x3 → x5 ≡ x4 ⊞ k → t1 ≡ x5 ⊞ w → y1 ≡ Σ0 (getD s 0 0) → y2 ≡ Maj (getD s 0 0) (getD s 1 0) (getD s 2 0) → t2 ≡ y1 ⊞ y2 → a ≡ t1 ⊞ t2 → e ≡ getD s 3 0 ⊞ t1
+    → a ∷ getD s 0 0 ∷ getD s 1 0 ∷ getD s 2 0 ∷ e ∷ getD s 4 0 ∷ getD s 5 0 ∷ getD s 6 0 ∷ [] ≡ round k w s
+unfolding round
+round-calls s k w x1 x2 x3 x4 x5 t1 y1 y2 t2 a e p1 p2 p3 p4 p5 p6 p7 p8 p9 p10 p11 = simp (p11, p10, p9, p8, p7, p6, p5, p4, p3, p2, p1)
+
+-- rounds over the schedule w from the words s₀, with k the constants that the code has
+module _ (k w s₀ : List ℕ) (q : k ≡ K) where
+  round-more : {s v : List ℕ} (t u : ℕ) → u ≡ suc t → s ≡ rounds t w s₀ → v ≡ round (getD k t 0) (getD w t 0) s → v ≡ rounds u w s₀
+  unfolding rounds
+  round-more t u e p r = rw (q, p) at r ∙ sym (ap (λ (n : ℕ). rounds n w s₀) e)
+
+  -- a turn of eight
+  pub rounds-turn : {s v1 v2 v3 v4 v5 v6 v7 v8 : List ℕ} (t : ℕ) → s ≡ rounds t w s₀
+      → v1 ≡ round (getD k t 0) (getD w t 0) s
+      → v2 ≡ round (getD k (t + 1) 0) (getD w (t + 1) 0) v1
+      → v3 ≡ round (getD k (t + 2) 0) (getD w (t + 2) 0) v2
+      → v4 ≡ round (getD k (t + 3) 0) (getD w (t + 3) 0) v3
+      → v5 ≡ round (getD k (t + 4) 0) (getD w (t + 4) 0) v4
+      → v6 ≡ round (getD k (t + 5) 0) (getD w (t + 5) 0) v5
+      → v7 ≡ round (getD k (t + 6) 0) (getD w (t + 6) 0) v6
+      → v8 ≡ round (getD k (t + 7) 0) (getD w (t + 7) 0) v7
+      → v8 ≡ rounds (t + 8) w s₀
+  rounds-turn t p r1 r2 r3 r4 r5 r6 r7 r8 =
+      let p1 = round-more t (t + 1) (omega arith) p r1 in
+      let p2 = round-more (t + 1) (t + 2) (omega arith) p1 r2 in
+      let p3 = round-more (t + 2) (t + 3) (omega arith) p2 r3 in
+      let p4 = round-more (t + 3) (t + 4) (omega arith) p3 r4 in
+      let p5 = round-more (t + 4) (t + 5) (omega arith) p4 r5 in
+      let p6 = round-more (t + 5) (t + 6) (omega arith) p5 r6 in
+      let p7 = round-more (t + 6) (t + 7) (omega arith) p6 r7 in
+      round-more (t + 7) (t + 8) (omega arith) p7 r8

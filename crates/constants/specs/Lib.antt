@@ -1,0 +1,2 @@
+pub mod Primes
+pub mod Constants

@@ -1,0 +1,4 @@
+pub mod Blocks
+pub mod Padding
+pub mod Output
+pub mod Answers
