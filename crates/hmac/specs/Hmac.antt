@@ -6,7 +6,7 @@ use Prim.Native.Nat.{ℕ, _-_}
 use lib.Dec.{ltb}
 use lib.ListN.{length, replicate}
 use Rattle.octets.specs.Places.{xor}
-use Rattle.refusal.specs.Refusal.{when, choose, Filled, fills}
+use Rattle.refusal.specs.Refusal.{Row, when, choose, Filled, fills}
 use Rattle.sha256.specs.Sha256.{sha256, not32}
 
 -- the byte 0x36, and the byte 0x5C, repeated B times
@@ -32,5 +32,8 @@ unfoldable pub hmac : List ℕ → List ℕ → List ℕ
 hmac key text = sha256 (xor (keyBlock key) opad ++ sha256 (xor (keyBlock key) ipad ++ text))
 
 -- 01, Sizes, and number 10
+abbrev pub macRows : List ℕ → List ℕ → List ℕ → List Row
+macRows key text out = when 10 (ltb 1024 (length key) || ltb 4096 (length text) || not32 out) ∷ []
+
 unfoldable pub macOf : List ℕ → List ℕ → List ℕ → Filled
-macOf key text out = fills (when 10 (ltb 1024 (length key) || ltb 4096 (length text) || not32 out) ∷ []) (hmac key text) out
+macOf key text out = fills (macRows key text out) (hmac key text) out

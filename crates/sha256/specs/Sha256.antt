@@ -7,7 +7,7 @@ use lib.Dec.{eqb, ltb}
 use lib.ListN.{length, take, drop}
 use Rattle.octets.specs.Layout.{join, number, bytes}
 use Rattle.octets.specs.Places.{tabulate}
-use Rattle.refusal.specs.Refusal.{when, Filled, fills}
+use Rattle.refusal.specs.Refusal.{Row, when, Filled, fills}
 use Rattle.constants.specs.Constants.{H0}
 use Rattle.compress.specs.Compress.{compress}
 
@@ -56,5 +56,8 @@ finished h before rest = absorbed h (padded (64 * before + length rest) rest)
 abbrev pub not32 : List ℕ → Bool
 not32 out = not (eqb (length out) 32)
 
+abbrev pub digestRows : List ℕ → List ℕ → List Row
+digestRows m out = when 10 (ltb 8192 (length m) || not32 out) ∷ []
+
 unfoldable pub digestOf : List ℕ → List ℕ → Filled
-digestOf m out = fills (when 10 (ltb 8192 (length m) || not32 out) ∷ []) (sha256 m) out
+digestOf m out = fills (digestRows m out) (sha256 m) out

@@ -1,1 +1,6 @@
 pub mod Starts
+pub mod Cells
+pub mod Marks
+pub mod Multiset
+pub mod Messages
+pub mod Guards

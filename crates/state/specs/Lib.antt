@@ -2,6 +2,7 @@ pub mod Sizes
 pub mod Marks
 pub mod Cells
 pub mod Multiset
+pub mod Counts
 pub mod Start
 pub mod Step
 pub mod Moves

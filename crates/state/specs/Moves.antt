@@ -101,10 +101,11 @@ unfoldable pub lookOf : ℕ → List ℕ → ℕ → List ℕ
 lookOf w m a = done (first (lookRows w m a)) (valueAt w m a) []
 
 -- Lowest free, and the numbers of its answers
+abbrev pub lowestRows : List ℕ → List Row
+lowestRows ws = when 9 (eqb (lowestFrom addresses 0 ws) addresses) ∷ []
+
 unfoldable pub lowestOf : List ℕ → Free
-lowestOf ws =
-    let a = lowestFrom addresses 0 ws in
-    done (first (when 9 (eqb a addresses) ∷ [])) (At a) Full
+lowestOf ws = done (first (lowestRows ws)) (At (lowestFrom addresses 0 ws)) Full
 
 unfoldable pub freeNumber : Free → ℕ
 freeNumber (At a) = 0

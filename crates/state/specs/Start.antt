@@ -5,7 +5,7 @@ use mathlib.Core.List.{List, [], _∷_}
 use Prim.Native.Nat.{ℕ}
 use lib.Dec.{eqb}
 use lib.ListN.{length, replicate}
-use Rattle.refusal.specs.Refusal.{when, first, done}
+use Rattle.refusal.specs.Refusal.{Row, when, first, done}
 use Rattle.state.specs.Sizes.{keySize}
 use Rattle.state.specs.Multiset.{emptyHash}
 use Rattle.state.specs.declared.State.{State}
@@ -24,7 +24,8 @@ none = fresh (replicate keySize 0) true
 abbrev pub started : ℕ → State → Started
 started n s = record { number = n; state = s }
 
+abbrev pub startRows : List ℕ → List Row
+startRows k = when 8 (not (eqb (length k) keySize)) ∷ []
+
 unfoldable pub startOf : List ℕ → Started
-startOf k =
-    let n = first (when 8 (not (eqb (length k) keySize)) ∷ []) in
-    started n (done n (fresh k false) none)
+startOf k = started (first (startRows k)) (done (first (startRows k)) (fresh k false) none)

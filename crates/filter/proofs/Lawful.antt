@@ -1,0 +1,38 @@
+-- No row holds exactly where all is lawful: each row is the test of one field of `Lawful`. Assumes nothing.
+use mathlib.Core.Path.{_≡_, refl}
+use mathlib.Core.Bool.{Bool, true, false, not, _&&_}
+use Prim.Native.Nat.{ℕ, suc}
+use native.Mathlib.Omega.{arith}
+use lib.ListN.{length}
+use borrow.Author.Tests.{ne-eqb, eqb-false, le-leb, leb-true, not-false}
+use Rattle.refusal.specs.Refusal.{choose, first}
+use Rattle.filter.specs.Filter.{Lawful, recordRows}
+use Rattle.filter.specs.declared.FilterRecord.{FilterRecord}
+use Rattle.filter.proofs.Past.{past-bits, bits-past}
+
+pub passed : (b : Bool) (n : ℕ) {x : ℕ} → choose b (suc n) x ≡ 0 → (b ≡ false) × (x ≡ 0)
+passed true n e = absurd (omega arith)
+passed false n e = (refl, e)
+
+both : (a b : Bool) → not (a && b) ≡ false → (a ≡ true) × (b ≡ true)
+both true b e = (refl, not-false b e)
+both false b e = absurd (let z : _≡_ {A = ℕ} 0 1 = cc in omega arith)
+
+pub lawful-none : (r : FilterRecord) → length (r .prefix) ≡ 16 → Lawful r → first (recordRows r) ≡ 0
+unfolding recordRows
+lawful-none r n l =
+    simp (le-leb _ _ (l .ordered), le-leb _ _ (l .bounded), bits-past (r .prefix) (r .length) n (l .clear), ne-eqb _ _ (l .member))
+
+pub none-lawful : (r : FilterRecord) → length (r .prefix) ≡ 16 → first (recordRows r) ≡ 0 → Lawful r
+unfolding recordRows
+none-lawful r n e =
+    let lengths = passed _ 12 e in
+    let past = passed _ 13 (lengths .1) in
+    let member = passed _ 14 (past .1) in
+    let both-lengths = both _ _ (lengths .0) in
+    record {
+      ordered = leb-true _ _ (both-lengths .0);
+      bounded = leb-true _ _ (both-lengths .1);
+      clear = past-bits (r .prefix) (r .length) n (past .0);
+      member = eqb-false _ _ (member .0);
+    }

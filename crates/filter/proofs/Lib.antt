@@ -1,0 +1,9 @@
+pub mod Calls
+pub mod Compares
+pub mod Copies
+pub mod Examples
+pub mod Fields
+pub mod Lawful
+pub mod Numbers
+pub mod Past
+pub mod Trips

@@ -1,0 +1,19 @@
+use borrow.Author.Tests.{eq-eqb, ne-eqb, lt-ltb, le-ltb}
+use Rattle.filter.specs.Going.{goingOf}
+use Rattle.filter.proofs.going.compare.Statement.{statement}
+use Rattle.filter.proofs.going.compare.Tie as tie
+
+returns : tie.Need-returns
+unfolding goingOf
+returns c = simp (ne-eqb _ _ (c .if1 .taken))
+
+returns-2 : tie.Need-returns-2
+unfolding goingOf
+returns-2 c = simp (eq-eqb _ _ (c .before .before .before .if1 .left), lt-ltb _ _ (c .if2 .taken))
+
+returns-3 : tie.Need-returns-3
+unfolding goingOf
+returns-3 c = simp (eq-eqb _ _ (c .before .before .before .if1 .left), le-ltb _ _ (c .if2 .left))
+
+pub compare-spec : {M : Type 1} → statement M
+compare-spec = tie.close (tie.spec returns returns-2 returns-3)

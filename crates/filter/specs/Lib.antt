@@ -1,0 +1,4 @@
+pub mod Examples
+pub mod Filter
+pub mod Going
+pub mod Promises

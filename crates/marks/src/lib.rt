@@ -1,0 +1,68 @@
+// The marks of addresses in use: sixteen 64-bit words by value. The mark of address a is digit a % 64 of word a / 64.
+use state::State;
+ghost use mathlib.Core.Path.{_≡_};
+ghost use Rattle.state.specs.Sizes.{addresses};
+ghost use Rattle.state.specs.Marks.{used, marked, unmarked, countOf, lowestFrom};
+
+// Is the address in use; no address past the last is.
+pub fn used(marks: [u64; State::WORDS], a: usize) -> bool
+    ensures { λ r. ⌜ r ≡ used marks a ⌝ }
+{
+    let q = a / 64;
+    if q < State::WORDS {
+        return (marks[q] >> (a % 64)) % 2 == 1;
+    }
+    false
+}
+
+// The marks with that of a set; past the last address there is none to set.
+pub fn with_mark(marks: [u64; State::WORDS], a: usize) -> [u64; State::WORDS]
+    ensures { λ r. ⌜ r ≡ marked marks a ⌝ }
+{
+    let q = a / 64;
+    let mut m = marks;
+    if q < State::WORDS {
+        m[q] = m[q] | (1 << (a % 64));
+    }
+    m
+}
+
+// The marks with that of a cleared.
+pub fn without_mark(marks: [u64; State::WORDS], a: usize) -> [u64; State::WORDS]
+    ensures { λ r. ⌜ r ≡ unmarked marks a ⌝ }
+{
+    let q = a / 64;
+    let mut m = marks;
+    if q < State::WORDS {
+        m[q] = m[q] & !(1 << (a % 64));
+    }
+    m
+}
+
+// How many addresses are in use: the ones of every word.
+pub fn count(marks: [u64; State::WORDS]) -> u32
+    ensures { λ r. ⌜ r ≡ countOf marks ⌝ }
+{
+    let mut n: u32 = 0;
+    let mut i: usize = 0;
+    while i < State::WORDS {
+        n += u64::count_ones(marks[i]);
+        i += 1;
+    }
+    n
+}
+
+// The smallest address that is not in use, or their number: a word's first zero is the first one of its complement.
+pub fn lowest(marks: [u64; State::WORDS]) -> usize
+    ensures { λ r. ⌜ r ≡ lowestFrom addresses 0 marks ⌝ }
+{
+    let mut i: usize = 0;
+    while i < State::WORDS {
+        let t = u64::trailing_zeros(!marks[i]);
+        if t < 64 {
+            return i * 64 + t as usize;
+        }
+        i += 1;
+    }
+    State::ADDRESSES
+}

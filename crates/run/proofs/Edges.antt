@@ -1,0 +1,99 @@
+-- The ends of the statement: the latest call and the value last set are one, so a load has one right answer; an empty run, a run that only refuses and a
+-- refused start are covered; and a check right after a start accepts. Assumes nothing.
+use mathlib.Core.Path.{_≡_, refl, sym, ap, ap₂, _∙_, subst}
+use mathlib.Core.Bool.{false}
+use mathlib.Core.List.{List, [], _∷_, _++_, append-nil, head-eq-of-cons-eq, tail-eq-of-cons-eq}
+use mathlib.Core.Logic.{_⊎_, inl, inr}
+use Prim.Native.Nat.{ℕ, _≤_}
+use lib.ListN.{length}
+use borrow.Author.Tests.{eq-eqb}
+use Rattle.state.specs.Sizes.{storeSize}
+use Rattle.state.specs.Cells.{Entry}
+use Rattle.state.specs.Start.{fresh, startOf}
+use Rattle.state.specs.Check.{checkRows}
+use Rattle.state.specs.Step.{Step}
+use Rattle.state.specs.declared.Started.{Started}
+use Rattle.state.proofs.Starts.{start-done}
+use Rattle.run.specs.Calls.{Call, add, load, store, remove, check, look, count, lowest, Lent, lent, after, events}
+use Rattle.run.specs.Demand3.{Latest, Sets, stateAfter, result, eventsOf, Done, Accepts, LastSet, EachLoad, LastAccepts, Moved}
+use Rattle.run.proofs.Lists.{by-last, place-in, no-place, last-place, place-stays}
+use Rattle.run.proofs.Ready.{by-call, done-number}
+use Rattle.run.proofs.Runs.{state-last, events-last}
+use Rattle.run.proofs.Complete.{complete-at}
+
+-- ---- the latest call is one
+
+module _ (P : List Lent → Lent → Type 0) (run : List Lent) (l k : Latest P run) where
+  pub latest-one : (l .before ≡ k .before) × (l .call ≡ k .call)
+  latest-one = go (place-in (l .before) (l .call ∷ l .later) (k .before) (k .call) (k .later) (sym (l .place) ∙ k .place))
+    where
+      here : (e : List Lent) → k .before ≡ l .before ++ e → l .call ∷ l .later ≡ e ++ (k .call ∷ k .later) → (l .before ≡ k .before) × (l .call ≡ k .call)
+      here [] f g = (sym (f ∙ append-nil (l .before)), head-eq-of-cons-eq g)
+      here (z ∷ e) f g =
+          let q : k .before ≡ l .before ++ (l .call ∷ e) = f ∙ ap (λ (y : Lent). l .before ++ (y ∷ e)) (sym (head-eq-of-cons-eq g)) in
+          absurd (l .last e (k .later) (k .call) (tail-eq-of-cons-eq g) (subst (λ (b : List Lent). P b (k .call)) q (k .holds)))
+
+      go : ((e : List Lent) × (l .before ≡ k .before ++ (k .call ∷ e)) × (k .later ≡ e ++ (l .call ∷ l .later)))
+          ⊎ ((e : List Lent) × (k .before ≡ l .before ++ e) × (l .call ∷ l .later ≡ e ++ (k .call ∷ k .later))) → (l .before ≡ k .before) × (l .call ≡ k .call)
+      go (inl (e, f, g)) = absurd (k .last e (l .later) (l .call) g (subst (λ (b : List Lent). P b (l .call)) f (l .holds)))
+      go (inr (e, f, g)) = here e f g
+
+abbrev given : Call → List ℕ
+given (add a v) = v
+given (load a o) = o
+given (store a v) = v
+given (remove a) = []
+given check = []
+given (look a) = []
+given count = []
+given lowest = []
+
+sets-given : (c : Call) (a : ℕ) (v : List ℕ) → Sets c a v → given c ≡ v
+sets-given c a v (inl e) = ap given e
+sets-given c a v (inr e) = ap given e
+
+module _ (w : ℕ) (tag : List ℕ → Entry → List ℕ) (key : List ℕ) where
+  -- the value last added or stored is one
+  pub last-one : (run : List Lent) (a : ℕ) (v u : List ℕ) → LastSet w tag key run a v → LastSet w tag key run a u → v ≡ u
+  last-one run a v u (l, h) (k, g) =
+      sym (sets-given (l .call .call) a v h) ∙ ap (λ (x : Lent). given (x .call)) (latest-one _ run l k .1) ∙ sets-given (k .call .call) a u g
+
+  -- ---- runs in which nothing happens
+
+  pub empty-run : LastAccepts w tag key [] → ⊥
+  empty-run (before, m, place, a) = no-place before (lent check m) [] place
+
+  -- where every call is refused the state is the start's, and no load is answered
+  pub refusing : (run : List Lent) → ((before later : List Lent) (x : Lent) → run ≡ before ++ (x ∷ later) → Done w tag key before x → ⊥)
+      → (stateAfter w tag key run ≡ startOf key .state) × (eventsOf w tag key run ≡ []) × EachLoad w tag key run
+  unfolding after events
+  refusing run n = (still run n .0, still run n .1, λ before later a o m e d. absurd (n before later (lent (load a o) m) e d))
+    where
+      one : (before : List Lent) (x : Lent) → (Done w tag key before x → ⊥) → (result w tag key before x .seen .state ≡ stateAfter w tag key before) × (result w tag key before x .events ≡ [])
+      one before x n =
+          by-call w tag (stateAfter w tag key before) (x .bytes) (λ (r : Step). (r .seen .state ≡ stateAfter w tag key before) × (r .events ≡ [])) (x .call)
+          (λ e. absurd (n (done-number w tag (stateAfter w tag key before) (x .bytes) (x .call) e)))
+          (λ k e. (refl, refl))
+
+      still : (run : List Lent) → ((before later : List Lent) (x : Lent) → run ≡ before ++ (x ∷ later) → Done w tag key before x → ⊥) → (stateAfter w tag key run ≡ startOf key .state) × (eventsOf w tag key run ≡ [])
+      still =
+          by-last (λ (run : List Lent). ((before later : List Lent) (x : Lent) → run ≡ before ++ (x ∷ later) → Done w tag key before x → ⊥) → (stateAfter w tag key run ≡ startOf key .state) × (eventsOf w tag key run ≡ []))
+          (λ n. (refl, refl))
+          (λ run x ih n.
+          let h = ih (λ before later y e. n before (later ++ (x ∷ [])) y (place-stays run before y later (x ∷ []) e)) in
+          let k = one run x (n run [] x refl) in
+          (state-last w tag key run x ∙ k .0 ∙ h .0, events-last w tag key run x ∙ ap₂ _++_ (h .1) (k .1)))
+
+  -- a check right after a start accepts, whatever the store holds
+  pub first-check : 1 ≤ w → length key ≡ 32 → (m : List ℕ) → length m ≡ storeSize w → Accepts w tag key [] m
+  unfolding after fresh checkRows
+  first-check one h m k =
+      let c : startOf key .state .closed ≡ false = ap (λ (r : Started). r .state .closed) (start-done key h) in
+      complete-at w one tag key [] m (λ before later x e d l a u. absurd (never before later x e l)) (done-number w tag (startOf key .state) m check (rw (c, eq-eqb (length m) (storeSize w) k)))
+    where
+      never : (before later : List Lent) (x : Lent) → lent check m ∷ [] ≡ before ++ (x ∷ later) → Latest (Moved w tag key) before → ⊥
+      never before later x e l = go (last-place [] (lent check m) before x later e)
+        where
+          go : ((r : List Lent) × ([] ≡ before ++ (x ∷ r)) × (later ≡ r ++ (lent check m ∷ []))) ⊎ ((before ≡ []) × (x ≡ lent check m)) → ⊥
+          go (inl (r, f, g)) = no-place before x r f
+          go (inr (f, g)) = no-place (l .before) (l .call) (l .later) (sym f ∙ l .place)

@@ -1,0 +1,132 @@
+-- What the events of a run leave written down: the entries put and taken since the last accepted check, and at each address the entry put there and
+-- not taken since. Of a period it is just the period's entries, by induction on the events. Assumes nothing.
+use mathlib.Core.Path.{_≡_, refl, sym, ap, _∙_}
+use mathlib.Core.Bool.{Bool, true, false, true≢false}
+use mathlib.Core.List.{List, [], _∷_, _++_, append-nil, append-assoc}
+use mathlib.Core.Option.{Option, none, some}
+use mathlib.Core.Logic.{_⊎_, inl, inr}
+use Prim.Native.Nat.{ℕ}
+use lib.Dec.{eqb}
+use Rattle.refusal.specs.Refusal.{choose}
+use Rattle.state.specs.Cells.{Entry}
+use Rattle.state.specs.Step.{Event, took, put, answered, set, dropped, accepted}
+use Rattle.run.specs.Demand3.{putIn, takenIn, Since}
+use Rattle.run.proofs.Lists.{by-last, last-place, no-place}
+
+pub record Log : Type 0 where
+  pub puts : List Entry
+  pub takes : List Entry
+  pub held : ℕ → Option Entry
+
+unfoldable pub upd : (ℕ → Option Entry) → ℕ → Option Entry → (ℕ → Option Entry)
+upd f a x b = choose (eqb b a) x (f b)
+
+unfoldable pub putL : Log → Entry → Log
+putL l e = record { puts = l .puts ++ (e ∷ []); takes = l .takes; held = upd (l .held) (e .address) (some e) }
+
+unfoldable pub takeL : Log → Entry → Log
+takeL l e = record { puts = l .puts; takes = l .takes ++ (e ∷ []); held = upd (l .held) (e .address) none }
+
+unfoldable pub noLog : Log
+noLog = record { puts = []; takes = []; held = λ a. none }
+
+unfoldable pub noted : Log → Event → Log
+noted l (took e) = takeL l e
+noted l (put e) = putL l e
+noted l (answered a v) = l
+noted l (set a v) = l
+noted l (dropped a) = l
+noted l accepted = noLog
+
+unfoldable pub follow : Log → List Event → Log
+follow l [] = l
+follow l (e ∷ es) = follow (noted l e) es
+
+pub follow-append : (l : Log) (p q : List Event) → follow l (p ++ q) ≡ follow (follow l p) q
+unfolding follow
+follow-append l [] q = refl
+follow-append l (e ∷ p) q = follow-append (noted l e) p q
+
+-- ---- a period
+
+abbrev Unbroken : List Event → Type 0
+Unbroken es = (p q : List Event) → es ≡ p ++ (accepted ∷ q) → ⊥
+
+rest-unbroken : (e : Event) (es : List Event) → Unbroken (e ∷ es) → Unbroken es
+rest-unbroken e es u p q k = u (e ∷ p) q (ap (λ (l : List Event). e ∷ l) k)
+
+unbroken-puts : (l : Log) (es : List Event) → Unbroken es → follow l es .puts ≡ l .puts ++ putIn es
+unfolding follow noted putL takeL putIn
+unbroken-puts l [] u = sym (append-nil (l .puts))
+unbroken-puts l (took e ∷ es) u = unbroken-puts (takeL l e) es (rest-unbroken (took e) es u)
+unbroken-puts l (put e ∷ es) u = unbroken-puts (putL l e) es (rest-unbroken (put e) es u) ∙ append-assoc (l .puts) (e ∷ []) (putIn es)
+unbroken-puts l (answered a v ∷ es) u = unbroken-puts l es (rest-unbroken (answered a v) es u)
+unbroken-puts l (set a v ∷ es) u = unbroken-puts l es (rest-unbroken (set a v) es u)
+unbroken-puts l (dropped a ∷ es) u = unbroken-puts l es (rest-unbroken (dropped a) es u)
+unbroken-puts l (accepted ∷ es) u = absurd (u [] es refl)
+
+unbroken-takes : (l : Log) (es : List Event) → Unbroken es → follow l es .takes ≡ l .takes ++ takenIn es
+unfolding follow noted putL takeL takenIn
+unbroken-takes l [] u = sym (append-nil (l .takes))
+unbroken-takes l (took e ∷ es) u = unbroken-takes (takeL l e) es (rest-unbroken (took e) es u) ∙ append-assoc (l .takes) (e ∷ []) (takenIn es)
+unbroken-takes l (put e ∷ es) u = unbroken-takes (putL l e) es (rest-unbroken (put e) es u)
+unbroken-takes l (answered a v ∷ es) u = unbroken-takes l es (rest-unbroken (answered a v) es u)
+unbroken-takes l (set a v ∷ es) u = unbroken-takes l es (rest-unbroken (set a v) es u)
+unbroken-takes l (dropped a ∷ es) u = unbroken-takes l es (rest-unbroken (dropped a) es u)
+unbroken-takes l (accepted ∷ es) u = absurd (u [] es refl)
+
+-- nothing is written down where a period begins
+begun : (past : List Event) → (past ≡ []) ⊎ ((old : List Event) × (past ≡ old ++ (accepted ∷ []))) → follow noLog past ≡ noLog
+unfolding follow noted
+begun past (inl e) = ap (follow noLog) e
+begun past (inr (old, e)) = ap (follow noLog) e ∙ follow-append noLog old (accepted ∷ [])
+
+module _ (all period : List Event) (s : Since all period) where
+  from : follow noLog all ≡ follow noLog period
+  from = ap (follow noLog) (s .place) ∙ follow-append noLog (s .past) period ∙ ap (λ (l : Log). follow l period) (begun (s .past) (s .begins))
+
+  pub since-puts : follow noLog all .puts ≡ putIn period
+  unfolding noLog
+  since-puts = ap (λ (l : Log). l .puts) from ∙ unbroken-puts noLog period (s .unbroken)
+
+  pub since-takes : follow noLog all .takes ≡ takenIn period
+  unfolding noLog
+  since-takes = ap (λ (l : Log). l .takes) from ∙ unbroken-takes noLog period (s .unbroken)
+
+-- every list of events has such a period
+abbrev pub isAccepted : Event → Bool
+isAccepted (took e) = false
+isAccepted (put e) = false
+isAccepted (answered a v) = false
+isAccepted (set a v) = false
+isAccepted (dropped a) = false
+isAccepted accepted = true
+
+module _ (all : List Event) where
+  grows : (e : Event) → isAccepted e ≡ false → (period : List Event) × Since all period → (period : List Event) × Since (all ++ (e ∷ [])) period
+  grows e n (period, s) = (
+    period ++ (e ∷ []),
+    record { past = s .past; place = ap (λ (l : List Event). l ++ (e ∷ [])) (s .place) ∙ append-assoc (s .past) period (e ∷ []); begins = s .begins; unbroken = whole },
+  )
+    where
+      whole : (p q : List Event) → period ++ (e ∷ []) ≡ p ++ (accepted ∷ q) → ⊥
+      whole p q k = go (last-place period e p accepted q k)
+        where
+          go : ((r : List Event) × (period ≡ p ++ (accepted ∷ r)) × (q ≡ r ++ (e ∷ []))) ⊎ ((p ≡ period) × (accepted ≡ e)) → ⊥
+          go (inl (r, f, g)) = s .unbroken p r f
+          go (inr (f, g)) = true≢false (ap isAccepted g ∙ n)
+
+  more : (e : Event) → (period : List Event) × Since all period → (period : List Event) × Since (all ++ (e ∷ [])) period
+  more (took e) h = grows (took e) refl h
+  more (put e) h = grows (put e) refl h
+  more (answered a v) h = grows (answered a v) refl h
+  more (set a v) h = grows (set a v) refl h
+  more (dropped a) h = grows (dropped a) refl h
+  more accepted h =
+      ([], record { past = all ++ (accepted ∷ []); place = sym (append-nil (all ++ (accepted ∷ []))); begins = inr (all, refl); unbroken = λ p q. no-place p accepted q })
+
+pub since-now : (all : List Event) → (period : List Event) × Since all period
+since-now =
+    by-last (λ (all : List Event). (period : List Event) × Since all period)
+    ([], record { past = []; place = refl; begins = inl refl; unbroken = λ p q. no-place p accepted q })
+    more

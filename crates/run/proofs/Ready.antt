@@ -1,0 +1,153 @@
+-- Each call by its rows: what it gives where none holds, and what it may rely on then, row by row. Assumes nothing.
+use mathlib.Core.Path.{_≡_, refl, sym, ap, _∙_, subst}
+use mathlib.Core.Bool.{Bool, true, false, not, _&&_, false≢true}
+use mathlib.Core.List.{List, [], _∷_}
+use mathlib.Core.Logic.{_≢_}
+use Prim.Native.Nat.{ℕ, zero, suc, _<_}
+use native.Mathlib.Omega.{arith}
+use lib.Dec.{eqb, ltb, eqb·suc-zero}
+use lib.ListN.{length}
+use borrow.Author.Tests.{eqb-true, eqb-false, ltb-true, not-true, not-false}
+use Rattle.refusal.specs.Refusal.{Row, when, first, choose, done, NoneHolds}
+use Rattle.state.specs.Sizes.{addresses, valueSize, storeSize, ceiling}
+use Rattle.state.specs.Marks.{used}
+use Rattle.state.specs.Cells.{Entry}
+use Rattle.state.specs.Step.{Event, seen, Step}
+use Rattle.state.specs.Moves.{shutRow, storeRow, addressRow, bufferRow, clockRow, addRows, useRows, removeRows, call, added, addOf, loaded, loadOf, stored, storeOf, removed, removeOf}
+use Rattle.state.specs.Check.{checkRows, agrees, takeBelow, acceptance, rejection, checkOf}
+use Rattle.state.specs.declared.State.{State}
+use Rattle.state.specs.declared.Verdict.the-variants.{Nothing}
+use Rattle.state.proofs.Marks.{both}
+use Rattle.run.specs.Calls.{Call, add, load, store, remove, check, look, count, lowest, idle, step}
+use Rattle.run.proofs.Walk.{by-choose}
+
+-- the rows of a call, the out buffer that it is lent, and what it gives where no row holds
+abbrev pub rowsOf : ℕ → State → List ℕ → Call → List Row
+rowsOf w s m (add a v) = addRows w s m a v
+rowsOf w s m (load a o) = useRows w s m a o
+rowsOf w s m (store a v) = useRows w s m a v
+rowsOf w s m (remove a) = removeRows w s m a
+rowsOf w s m check = checkRows w s m
+rowsOf w s m (look a) = []
+rowsOf w s m count = []
+rowsOf w s m lowest = []
+
+abbrev pub outOf : Call → List ℕ
+outOf (add a v) = []
+outOf (load a o) = o
+outOf (store a v) = []
+outOf (remove a) = []
+outOf check = []
+outOf (look a) = []
+outOf count = []
+outOf lowest = []
+
+abbrev pub refusedStep : ℕ → State → List ℕ → Call → Step
+refusedStep n s m c = record { seen = seen n Nothing s m (outOf c); events = [] }
+
+module _ (w : ℕ) (tag : List ℕ → Entry → List ℕ) (s : State) (m : List ℕ) where
+  abbrev pub whenDone : Call → Step
+  whenDone (add a v) = added w tag s m a v
+  whenDone (load a o) = loaded w tag s m a
+  whenDone (store a v) = stored w tag s m a v
+  whenDone (remove a) = removed w tag s m a
+  whenDone check = choose (agrees (takeBelow w tag s m addresses)) (acceptance w tag s m) (rejection w tag s m)
+  whenDone (look a) = idle s m
+  whenDone count = idle s m
+  whenDone lowest = idle s m
+
+  by-rows : (c : Call) → step w tag s m c ≡ done (first (rowsOf w s m c)) (whenDone c) (refusedStep (first (rowsOf w s m c)) s m c)
+  unfolding step addOf loadOf storeOf removeOf checkOf call
+  by-rows (add a v) = refl
+  by-rows (load a o) = refl
+  by-rows (store a v) = refl
+  by-rows (remove a) = refl
+  by-rows check = refl
+  by-rows (look a) = refl
+  by-rows count = refl
+  by-rows lowest = refl
+
+  -- what holds of each call that is done, and of each that is refused, holds of each call
+  pub by-call : (P : Step → Type 0) (c : Call) → (first (rowsOf w s m c) ≡ 0 → P (whenDone c)) → ((n : ℕ) → first (rowsOf w s m c) ≡ suc n → P (refusedStep (suc n) s m c))
+      → P (step w tag s m c)
+  by-call P c f g = subst P (sym (by-rows c)) (go (first (rowsOf w s m c)) f g)
+    where
+      go : (n : ℕ) → (n ≡ 0 → P (whenDone c)) → ((k : ℕ) → n ≡ suc k → P (refusedStep (suc k) s m c)) → P (done n (whenDone c) (refusedStep n s m c))
+      go zero f g = f refl
+      go (suc n) f g = g n refl
+
+  pub step-done : (c : Call) → first (rowsOf w s m c) ≡ 0 → step w tag s m c ≡ whenDone c
+  step-done c e = by-rows c ∙ rw e
+
+  pub done-number : (c : Call) → first (rowsOf w s m c) ≡ 0 → step w tag s m c .seen .number ≡ 0
+  unfolding added loaded stored removed acceptance rejection
+  done-number c e = ap (λ (r : Step). r .seen .number) (step-done c e) ∙ go c
+    where
+      go : (c : Call) → whenDone c .seen .number ≡ 0
+      go (add a v) = refl
+      go (load a o) = refl
+      go (store a v) = refl
+      go (remove a) = refl
+      go check = by-choose (λ (r : Step). r .seen .number ≡ 0) (agrees (takeBelow w tag s m addresses)) (λ k. refl) (λ k. refl)
+      go (look a) = refl
+      go count = refl
+      go lowest = refl
+
+  pub number-done : (c : Call) → step w tag s m c .seen .number ≡ 0 → first (rowsOf w s m c) ≡ 0
+  number-done c = by-call (λ (r : Step). r .seen .number ≡ 0 → first (rowsOf w s m c) ≡ 0) c (λ e z. e) (λ n e z. absurd (omega arith))
+
+-- ---- the rows that do not hold
+
+positive : List Row → Bool
+positive [] = true
+positive (r ∷ rs) = not (eqb (r .number) 0) && positive rs
+
+passed : (rows : List Row) → positive rows ≡ true → first rows ≡ 0 → NoneHolds rows
+unfolding positive NoneHolds
+passed [] p e = tt
+passed (r ∷ rs) p e = let q = both (not (eqb (r .number) 0)) (positive rs) p in go q (r .holds) refl (passed rs (q .1))
+  where
+    go : (not (eqb (r .number) 0) ≡ true) × (positive rs ≡ true) → (b : Bool) → r .holds ≡ b → (first rs ≡ 0 → NoneHolds rs) → NoneHolds (r ∷ rs)
+    go q true h ih = absurd (eqb-false (r .number) 0 (not-true _ (q .0)) (sym (ap (λ (b : Bool). choose b (r .number) (first rs)) h) ∙ e))
+    go q false h ih = (h, ih (sym (ap (λ (b : Bool). choose b (r .number) (first rs)) h) ∙ e))
+
+-- what a call on an address may rely on, the mark of the address being u; and what one that puts may
+pub record Ready (w : ℕ) (s : State) (m : List ℕ) (a : ℕ) (u : Bool) : Type 0 where
+  pub notClosed : s .closed ≡ false
+  pub size : length m ≡ storeSize w
+  pub below : a < addresses
+  pub mark : used (s .marks) a ≡ u
+
+pub record Timed (w : ℕ) (s : State) (b : List ℕ) : Type 0 where
+  pub size : length b ≡ valueSize
+  pub time : s .clock ≢ ceiling w
+
+module _ (w : ℕ) (s : State) (m : List ℕ) where
+  pub check-ready : first (checkRows w s m) ≡ 0 → (s .closed ≡ false) × (length m ≡ storeSize w)
+  unfolding checkRows NoneHolds positive
+  check-ready e = let p = passed (checkRows w s m) refl e in (p .0, eqb-true _ _ (not-false _ (p .1 .0)))
+
+  module _ (a : ℕ) where
+    pub remove-ready : first (removeRows w s m a) ≡ 0 → Ready w s m a true
+    unfolding removeRows NoneHolds positive
+    remove-ready e =
+        let p = passed (removeRows w s m a) refl e in
+        record { notClosed = p .0; size = eqb-true _ _ (not-false _ (p .1 .0)); below = ltb-true _ _ (not-false _ (p .1 .1 .0)); mark = not-false _ (p .1 .1 .1 .0) }
+
+    -- add's rows, and load's and store's, are these with t as the test of the mark
+    put-ready : (b : List ℕ) (t u : Bool) (n : ℕ) → (t ≡ false → used (s .marks) a ≡ u)
+        → first (shutRow s ∷ storeRow w m ∷ addressRow a ∷ bufferRow b ∷ when (suc n) t ∷ clockRow w s ∷ []) ≡ 0 → Ready w s m a u × Timed w s b
+    unfolding NoneHolds positive
+    put-ready b t u n f e =
+        let p = passed (shutRow s ∷ storeRow w m ∷ addressRow a ∷ bufferRow b ∷ when (suc n) t ∷ clockRow w s ∷ []) (rw (eqb·suc-zero n)) e in (
+          record { notClosed = p .0; size = eqb-true _ _ (not-false _ (p .1 .0)); below = ltb-true _ _ (not-false _ (p .1 .1 .0)); mark = f (p .1 .1 .1 .1 .0) },
+          record { size = eqb-true _ _ (not-false _ (p .1 .1 .1 .0)); time = eqb-false _ _ (p .1 .1 .1 .1 .1 .0) },
+        )
+
+    pub add-ready : (v : List ℕ) → first (addRows w s m a v) ≡ 0 → Ready w s m a false × Timed w s v
+    unfolding addRows
+    add-ready v = put-ready v (used (s .marks) a) false 3 (λ h. h)
+
+    pub use-ready : (b : List ℕ) → first (useRows w s m a b) ≡ 0 → Ready w s m a true × Timed w s b
+    unfolding useRows
+    use-ready b = put-ready b (not (used (s .marks) a)) true 4 (not-false (used (s .marks) a))

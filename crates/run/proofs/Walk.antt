@@ -1,0 +1,275 @@
+-- A check's takes and the puts that open the next period, address by address: each is a take or a put of its own address, so the rest is as it was.
+-- Assumes nothing.
+use mathlib.Core.Path.{_≡_, refl, sym, ap, _∙_, subst}
+use mathlib.Core.Bool.{Bool, true, false, not, false≢true}
+use mathlib.Core.List.{List, [], _∷_, _++_}
+use mathlib.Core.Option.{Option, none, some}
+use mathlib.Core.Logic.{_⊎_, inl, inr, _≢_}
+use Prim.Native.Nat.{ℕ, zero, suc, _+_, _≤_, _<_}
+use native.Mathlib.Omega.{arith}
+use lib.Dec.{eqb}
+use borrow.Author.Tests.{eqb-true, eqb-false, eq-eqb, ne-eqb}
+use Rattle.refusal.specs.Refusal.{choose}
+use Rattle.state.specs.Sizes.{addresses}
+use Rattle.state.specs.Marks.{used}
+use Rattle.state.specs.Cells.{Entry, entryAt}
+use Rattle.state.specs.Multiset.{hash, sameHash}
+use Rattle.state.specs.Counts.{sameEntry, bit, times}
+use Rattle.state.specs.Step.{Event, took, put, accepted, takeEntry, putEntry}
+use Rattle.state.specs.Check.{inUse, opened, opening, agrees, takes, puts, takeBelow, openBelow}
+use Rattle.state.specs.declared.State.{State}
+use Rattle.state.proofs.Marks.{both}
+use Rattle.state.proofs.Multiset.{sameEntry-true, sameHash-true, times-last, hash-none}
+use Rattle.run.specs.Demand3.{Differ}
+use Rattle.run.proofs.Lists.{Each, each-none, each-more, each-both}
+use Rattle.run.proofs.Logs.{Log, upd, putL, takeL, noLog, noted, follow, follow-append}
+use Rattle.run.proofs.Balance.{upd-same, upd-other, heldTimes, Balance, put-balance}
+use Rattle.run.proofs.Micro.{Stamps, Hashed, Status, faulty, bad, good, status-map, take-hashed, put-hashed, take-stamps, take-status}
+
+pub by-choose : {A : Type 0} (P : A → Type 0) (b : Bool) {x y : A} → (b ≡ true → P x) → (b ≡ false → P y) → P (choose b x y)
+by-choose P true p q = p refl
+by-choose P false p q = q refl
+
+pub by-choose₂ : {A B : Type 0} (P : A → B → Type 0) (b : Bool) {x y : A} {u v : B} → (b ≡ true → P x u) → (b ≡ false → P y v) → P (choose b x y) (choose b u v)
+by-choose₂ P true p q = p refl
+by-choose₂ P false p q = q refl
+
+pub below-suc : (a n : ℕ) → a < suc n → (a ≡ n) ⊎ (a < n)
+below-suc a n h = go (eqb a n) refl
+  where
+    go : (b : Bool) → eqb a n ≡ b → (a ≡ n) ⊎ (a < n)
+    go true e = inl (eqb-true a n e)
+    go false e = let d : a ≢ n = eqb-false a n e in inr (omega arith)
+
+-- what an event at each address in use below n leaves written down
+unfoldable pub walk : (ℕ → Event) → List ℕ → Log → ℕ → Log
+walk x ws l zero = l
+walk x ws l (suc n) = choose (used ws n) (noted (walk x ws l n) (x n)) (walk x ws l n)
+
+follow-walk : (x : ℕ → Event) (ws : List ℕ) (l : Log) (n : ℕ) → follow l (inUse x ws n) ≡ walk x ws l n
+unfolding walk inUse follow
+follow-walk x ws l zero = refl
+follow-walk x ws l (suc n) = follow-append l (inUse x ws n) (choose (used ws n) (x n ∷ []) []) ∙ go (used ws n) (follow-walk x ws l n)
+  where
+    go : (b : Bool) → follow l (inUse x ws n) ≡ walk x ws l n → follow (follow l (inUse x ws n)) (choose b (x n ∷ []) []) ≡ choose b (noted (walk x ws l n) (x n)) (walk x ws l n)
+    go true e = ap (λ (k : Log). noted k (x n)) e
+    go false e = e
+
+pub each-used : (P : Event → Type 0) (x : ℕ → Event) (ws : List ℕ) (n : ℕ) → ((a : ℕ) → a < n → P (x a)) → Each P (inUse x ws n)
+unfolding inUse
+each-used P x ws zero h = each-none P
+each-used P x ws (suc n) h =
+    each-both P (inUse x ws n) (choose (used ws n) (x n ∷ []) []) (each-used P x ws n (λ a k. h a (omega arith)))
+    (by-choose (Each P) (used ws n) (λ u. each-more P (x n) [] (h n (omega arith)) (each-none P)) (λ u. each-none P))
+
+cleared : (g : ℕ → Option Entry) (n a : ℕ) → g a ≡ none → upd g n none a ≡ none
+cleared g n a e = go (eqb a n) refl
+  where
+    go : (b : Bool) → eqb a n ≡ b → upd g n none a ≡ none
+    go true q = upd-same g n none a q
+    go false q = upd-other g n none a q ∙ e
+
+module _ (w : ℕ) (s : State) (m : List ℕ) where
+  abbrev pub takenL : Log → ℕ → Log
+  takenL = walk (λ a. took (entryAt w m a)) (s .marks)
+
+  abbrev pub openL : ℕ → Log
+  openL = walk (λ a. put (opening w m a)) (s .marks) noLog
+
+  -- what a check's events leave written down
+  pub taken-log : (l : Log) → follow l (takes w s m) ≡ takenL l addresses
+  unfolding takes
+  taken-log l = follow-walk (λ a. took (entryAt w m a)) (s .marks) l addresses
+
+  pub opened-log : (l : Log) → follow l (takes w s m ++ (accepted ∷ puts w s m)) ≡ openL addresses
+  unfolding puts follow noted
+  opened-log l = follow-append l (takes w s m) (accepted ∷ puts w s m) ∙ follow-walk (λ a. put (opening w m a)) (s .marks) noLog addresses
+
+  -- ---- the takes
+
+  module _ (l : Log) where
+    pub taken-puts : (n : ℕ) → takenL l n .puts ≡ l .puts
+    unfolding walk noted takeL
+    taken-puts zero = refl
+    taken-puts (suc n) = by-choose (λ (x : Log). x .puts ≡ l .puts) (used (s .marks) n) (λ e. taken-puts n) (λ e. taken-puts n)
+
+    pub taken-above : (n a : ℕ) → n ≤ a → takenL l n .held a ≡ l .held a
+    unfolding walk noted takeL entryAt
+    taken-above zero a h = refl
+    taken-above (suc n) a h =
+        by-choose (λ (x : Log). x .held a ≡ l .held a) (used (s .marks) n)
+        (λ e. upd-other (takenL l n .held) n none a (ne-eqb a n (λ q. omega arith)) ∙ taken-above n a (omega arith))
+        (λ e. taken-above n a (omega arith))
+
+    -- what is not held, or is in use below n, is held no more
+    pub taken-none : (n a : ℕ) → l .held a ≡ none → takenL l n .held a ≡ none
+    unfolding walk noted takeL entryAt
+    taken-none zero a e = e
+    taken-none (suc n) a e = by-choose (λ (x : Log). x .held a ≡ none) (used (s .marks) n) (λ u. cleared (takenL l n .held) n a (taken-none n a e)) (λ u. taken-none n a e)
+
+    pub taken-gone : (n a : ℕ) → a < n → used (s .marks) a ≡ true → takenL l n .held a ≡ none
+    unfolding walk noted takeL entryAt
+    taken-gone zero a h u = absurd (omega arith)
+    taken-gone (suc n) a h u = go (below-suc a n h) (taken-gone n a)
+      where
+        go : (a ≡ n) ⊎ (a < n) → (a < n → used (s .marks) a ≡ true → takenL l n .held a ≡ none) → takenL l (suc n) .held a ≡ none
+        go (inl e) ih =
+            by-choose (λ (x : Log). x .held a ≡ none) (used (s .marks) n)
+            (λ v. upd-same (takenL l n .held) n none a (eq-eqb a n e))
+            (λ v. absurd (false≢true (sym v ∙ ap (used (s .marks)) (sym e) ∙ u)))
+        go (inr k) ih = by-choose (λ (x : Log). x .held a ≡ none) (used (s .marks) n) (λ v. cleared (takenL l n .held) n a (ih k u)) (λ v. ih k u)
+
+    -- the cells of the addresses in use below n are as they were left
+    abbrev pub Right : ℕ → Type 0
+    Right n = (a : ℕ) → a < n → used (s .marks) a ≡ true → l .held a ≡ some (entryAt w m a)
+
+    right-suc : (n : ℕ) → Right n → (used (s .marks) n ≡ true → l .held n ≡ some (entryAt w m n)) → Right (suc n)
+    right-suc n f g a h u = go (below-suc a n h)
+      where
+        go : (a ≡ n) ⊎ (a < n) → l .held a ≡ some (entryAt w m a)
+        go (inl e) = subst (λ (x : ℕ). used (s .marks) x ≡ true → l .held x ≡ some (entryAt w m x)) (sym e) g u
+        go (inr k) = f a k u
+
+  -- ---- the puts that open a period
+
+  pub open-takes : (n : ℕ) → openL n .takes ≡ []
+  unfolding walk noted putL noLog
+  open-takes zero = refl
+  open-takes (suc n) = by-choose (λ (x : Log). x .takes ≡ []) (used (s .marks) n) (λ e. open-takes n) (λ e. open-takes n)
+
+  pub open-above : (n a : ℕ) → n ≤ a → openL n .held a ≡ none
+  unfolding walk noted putL noLog opening
+  open-above zero a h = refl
+  open-above (suc n) a h =
+      by-choose (λ (x : Log). x .held a ≡ none) (used (s .marks) n)
+      (λ e. upd-other (openL n .held) n (some (opening w m n)) a (ne-eqb a n (λ q. omega arith)) ∙ open-above n a (omega arith))
+      (λ e. open-above n a (omega arith))
+
+  -- an address in use is held with the entry that opens it, and another is not held
+  abbrev pub Opened : ℕ → Option Entry → Type 0
+  Opened a o = o ≡ choose (used (s .marks) a) (some (opening w m a)) none
+
+  pub open-held : (n a : ℕ) → a < n → Opened a (openL n .held a)
+  unfolding walk noted putL opening
+  open-held zero a h = absurd (omega arith)
+  open-held (suc n) a h = go (eqb a n) refl (open-held n a)
+    where
+      go : (b : Bool) → eqb a n ≡ b → (a < n → Opened a (openL n .held a)) → Opened a (openL (suc n) .held a)
+      go true e ih =
+          let back : (o : Option Entry) → Opened n o → Opened a o = λ o h. subst (λ (x : ℕ). Opened x o) (sym (eqb-true a n e)) h in
+          by-choose (λ (x : Log). Opened a (x .held a)) (used (s .marks) n)
+          (λ u. upd-same (openL n .held) n (some (opening w m n)) a e ∙ back (some (opening w m n)) (rw u))
+          (λ u. open-above n a (omega (arith, eqb-true a n e)) ∙ back none (rw u))
+      go false e ih =
+          let d : a ≢ n = eqb-false a n e in
+          by-choose (λ (x : Log). Opened a (x .held a)) (used (s .marks) n) (λ u. upd-other (openL n .held) n (some (opening w m n)) a e ∙ ih (omega arith)) (λ u. ih (omega arith))
+
+  pub open-balance : (n : ℕ) → Balance (openL n)
+  unfolding walk noted noLog times opening
+  open-balance zero = λ c. refl
+  open-balance (suc n) = by-choose Balance (used (s .marks) n) (λ e. put-balance (openL n) (opening w m n) (open-balance n) (open-above n n (omega arith))) (λ e. open-balance n)
+
+  open-later : (c : Entry) → 1 < c .stamp → (n : ℕ) → times c (openL n .puts) ≡ 0
+  unfolding walk noted putL noLog times opening
+  open-later c h zero = refl
+  open-later c h (suc n) =
+      by-choose (λ (x : Log). times c (x .puts) ≡ 0) (used (s .marks) n)
+      (λ e. times-last c (openL n .puts) (opening w m n) ∙ go (sameEntry c (opening w m n)) refl (open-later c h n))
+      (λ e. open-later c h n)
+    where
+      go : (b : Bool) → sameEntry c (opening w m n) ≡ b → times c (openL n .puts) ≡ 0 → bit (sameEntry c (opening w m n)) + times c (openL n .puts) ≡ 0
+      go true e ih = let f : c .stamp ≡ 1 = ap (λ (x : Entry). x .stamp) (sameEntry-true c (opening w m n) e) in absurd (omega arith)
+      go false e ih = rw e (omega arith)
+
+  held-one : (o : Option Entry) (c : Entry) → heldTimes o c ≤ 1
+  held-one none c = omega arith
+  held-one (some e) c = go (sameEntry c e)
+    where
+      go : (b : Bool) → bit b ≤ 1
+      go true = omega arith
+      go false = omega arith
+
+  open-alike : (n : ℕ) (c : Entry) → times c (openL n .puts) ≤ 1
+  unfolding times
+  open-alike n c =
+      let f : times c (openL n .takes) ≡ 0 = rw (open-takes n) in
+      omega (arith, open-balance n c, held-one (openL n .held (c .address)) c)
+
+  module _ (tag : List ℕ → Entry → List ℕ) where
+    -- ---- the state after the takes, and after the puts
+
+    pub taken-key : (n : ℕ) → takeBelow w tag s m n .key ≡ s .key
+    unfolding takeBelow takeEntry
+    taken-key zero = refl
+    taken-key (suc n) = by-choose (λ (x : State). x .key ≡ s .key) (used (s .marks) n) (λ e. taken-key n) (λ e. taken-key n)
+
+    pub taken-hashed : (l : Log) → Hashed tag s l → (n : ℕ) → Hashed tag (takeBelow w tag s m n) (takenL l n)
+    unfolding takeBelow walk noted
+    taken-hashed l h zero = h
+    taken-hashed l h (suc n) = by-choose₂ (Hashed tag) (used (s .marks) n) (λ e. take-hashed tag _ _ (entryAt w m n) (taken-hashed l h n)) (λ e. taken-hashed l h n)
+
+    taken-status : {Q : Type 0} (l : Log) → Status s l Q → (n : ℕ) → Status (takeBelow w tag s m n) (takenL l n) (Q × Right l n)
+    unfolding takeBelow walk noted entryAt
+    taken-status {Q} l st zero = status-map (λ q. (q, λ a h u. absurd (omega arith))) st
+    taken-status {Q} l st (suc n) =
+        let ih = taken-status l st n in
+        by-choose₂ (λ (x : State) (y : Log). Status x y (Q × Right l (suc n))) (used (s .marks) n)
+        (λ e. status-map (λ t. (t .0 .0, right-suc l n (t .0 .1) (λ u. sym (taken-above l n n (omega arith)) ∙ t .1))) (take-status tag (takeBelow w tag s m n) (takenL l n) (entryAt w m n) ih))
+        (λ e. status-map (λ t. (t .0, right-suc l n (t .1) (λ u. absurd (false≢true (sym e ∙ u))))) ih)
+
+    -- different multisets with equal hashes in the period that a check ends
+    abbrev pub Told : Log → Type 0
+    Told l =
+        Differ (l .puts) (takenL l addresses .takes) × (hash (tag (s .key)) (l .puts) ≡ hash (tag (s .key)) (takenL l addresses .takes))
+
+    -- what an accepted check tells of its period
+    pub check-tells : {Q : Type 0} (l : Log) → Hashed tag s l → Status s l Q → agrees (takeBelow w tag s m addresses) ≡ true → Told l ⊎ (Q × Right l addresses)
+    unfolding agrees
+    check-tells {Q} l h st e = go (taken-status l st addresses)
+      where
+        t : State
+        t = takeBelow w tag s m addresses
+
+        k : Log
+        k = takenL l addresses
+
+        ok : (sameHash (t .put) (t .take) ≡ true) × (not (t .fault) ≡ true)
+        ok = both (sameHash (t .put) (t .take)) (not (t .fault)) e
+
+        equal : hash (tag (s .key)) (l .puts) ≡ hash (tag (s .key)) (k .takes)
+        equal =
+            let d = taken-hashed l h addresses in
+            let f : hash (tag (t .key)) (k .puts) ≡ hash (tag (t .key)) (k .takes) = sym (d .put) ∙ sameHash-true (t .put) (t .take) (ok .0) ∙ d .take in
+            rw (taken-key addresses, taken-puts l addresses) at f
+
+        go : Status t k (Q × Right l addresses) → Told l ⊎ (Q × Right l addresses)
+        go (faulty x) = absurd (false≢true (sym (ap not x) ∙ ok .1))
+        go (bad c g x) = inl ((c, λ q. let f : times c (k .puts) ≡ times c (l .puts) = ap (times c) (taken-puts l addresses) in omega arith), equal)
+        go (good b x) = inr x
+
+    pub open-hashed : (n : ℕ) → Hashed tag (openBelow w tag s m n) (openL n)
+    unfolding openBelow opened walk noted noLog
+    open-hashed zero = record { put = sym (hash-none (tag (s .key))); take = sym (hash-none (tag (s .key))) }
+    open-hashed (suc n) = by-choose₂ (Hashed tag) (used (s .marks) n) (λ e. put-hashed tag _ _ (opening w m n) (open-hashed n)) (λ e. open-hashed n)
+
+    pub open-clock : (n : ℕ) → openBelow w tag s m n .clock ≡ 1
+    unfolding openBelow opened putEntry opening
+    open-clock zero = refl
+    open-clock (suc n) = by-choose (λ (x : State). x .clock ≡ 1) (used (s .marks) n) (λ e. refl) (λ e. open-clock n)
+
+    pub open-stamps : (n : ℕ) → Stamps (openBelow w tag s m n) (openL n)
+    open-stamps n = record { later = λ c h. open-later c (omega (arith, open-clock n)) n; alike = open-alike n }
+
+    -- all else is as it was
+    pub record Same (x : State) : Type 0 where
+      pub key : x .key ≡ s .key
+      pub fault : x .fault ≡ s .fault
+      pub closed : x .closed ≡ s .closed
+      pub marks : x .marks ≡ s .marks
+
+    pub open-same : (n : ℕ) → Same (openBelow w tag s m n)
+    unfolding openBelow opened putEntry
+    open-same zero = record { key = refl; fault = refl; closed = refl; marks = refl }
+    open-same (suc n) =
+        let ih = open-same n in
+        by-choose Same (used (s .marks) n) (λ e. record { key = ih .key; fault = ih .fault; closed = ih .closed; marks = ih .marks }) (λ e. ih)

@@ -1,0 +1,74 @@
+-- Two runs worked out, with a tag that is easy to compute: each reply by computation. Assumes nothing.
+use mathlib.Core.Path.{_≡_, refl}
+use mathlib.Core.List.{List, [], _∷_}
+use Prim.Native.Nat.{ℕ, _+_}
+use lib.ListN.{take, replicate, getD}
+use Rattle.octets.specs.Layout.{total, join, split, number, bytes}
+use Rattle.octets.specs.Places.{xor}
+use Rattle.state.specs.Sizes.{keySize, addresses, valueSize, cellSize, storeSize, ceiling}
+use Rattle.state.specs.Marks.{used, marked}
+use Rattle.state.specs.Cells.{Entry, valueAt, stampAt, entryAt, writeCell, writeEntry}
+use Rattle.state.specs.Multiset.{emptyHash, withTag, same, sameHash}
+use Rattle.state.specs.Start.{fresh, startOf}
+use Rattle.state.specs.Step.{withMarks, shut, next, takeEntry, putEntry}
+use Rattle.state.specs.Moves.{addRows, useRows, call, added, addOf, loaded, loadOf, stored, storeOf}
+use Rattle.state.specs.Check.{checkRows, inUse, opened, opening, putBelow, agrees, takes, puts, takeBelow, openBelow, acceptance, rejection, checkOf}
+use Rattle.state.specs.declared.State.{State}
+use Rattle.state.specs.declared.Verdict.{Verdict}
+use Rattle.state.specs.declared.Verdict.the-variants.{Accept, Reject, Nothing}
+use Rattle.run.specs.Calls.{Call, add, load, store, check, Lent, lent, step}
+
+toy : List ℕ → Entry → List ℕ
+toy k e = (e .address + e .stamp + getD (e .value) 0 0) ∷ e .stamp ∷ replicate 30 1
+
+-- a value of 28 equal bytes, as the bench has them
+value : ℕ → List ℕ
+value b = replicate 28 b
+
+-- a call, and what is done to the store before it; and the run in which each call is lent what the call before left, so spoilt
+record Line : Type 0 where
+  spoil : List ℕ → List ℕ
+  call : Call
+
+abbrev line : Call → Line
+line c = record { spoil = λ m. m; call = c }
+
+lend : State → List ℕ → List Line → List Lent
+lend s m [] = []
+lend s m (x ∷ xs) = let r = step 2 toy s (x .spoil m) (x .call) .seen in lent (x .call) (x .spoil m) ∷ lend (r .state) (r .store) xs
+
+-- what a run replies: the number, the verdict, and the first byte of the out buffer
+record Reply : Type 0 where
+  number : ℕ
+  verdict : Verdict
+  out : List ℕ
+
+abbrev reply : ℕ → Verdict → List ℕ → Reply
+reply n v o = record { number = n; verdict = v; out = o }
+
+replies : State → List Lent → List Reply
+replies s [] = []
+replies s (x ∷ xs) =
+    let r = step 2 toy s (x .bytes) (x .call) .seen in
+    reply (r .number) (r .verdict) (take 1 (r .out)) ∷ replies (r .state) xs
+
+begin : State
+begin = startOf (replicate 32 0) .state
+
+session : List Line → List Reply
+session xs = replies begin (lend begin (replicate 30720 0) xs)
+
+-- all is honest: each load gives the value last added or stored, and each check accepts
+honest : List Line
+honest =
+    line (add 5 (value 0x41)) ∷ line (store 5 (value 0x42)) ∷ line (load 5 (value 0)) ∷ line check ∷ line (load 5 (value 0)) ∷ line check ∷ []
+
+-- the store hands back the cell that the add had left, with its stamp: the load gives the old value, the check rejects, and the next load is refused
+lied : List Line
+lied =
+    line (add 5 (value 0x41)) ∷ line (store 5 (value 0x42)) ∷ line (load 5 (value 0)) ∷ record { spoil = λ m. writeCell 2 m 5 (value 0x41) 1; call = load 5 (value 0) } ∷ line check ∷ line (load 5 (value 7)) ∷ []
+
+worked : (session honest ≡ reply 0 Nothing [] ∷ reply 0 Nothing [] ∷ reply 0 Nothing (0x42 ∷ []) ∷ reply 0 Accept [] ∷ reply 0 Nothing (0x42 ∷ []) ∷ reply 0 Accept [] ∷ [])
+    × (session lied ≡ reply 0 Nothing [] ∷ reply 0 Nothing [] ∷ reply 0 Nothing (0x42 ∷ []) ∷ reply 0 Nothing (0x41 ∷ []) ∷ reply 0 Reject [] ∷ reply 7 Nothing (7 ∷ []) ∷ [])
+unfolding honest lied session begin lend replies value toy step total join split number bytes xor keySize addresses valueSize cellSize storeSize ceiling used marked valueAt stampAt entryAt writeCell writeEntry emptyHash withTag same sameHash fresh startOf withMarks shut next takeEntry putEntry addRows useRows call added addOf loaded loadOf stored storeOf checkRows inUse opened opening putBelow agrees takes puts takeBelow openBelow acceptance rejection checkOf
+worked = (refl, refl)

@@ -1,0 +1,66 @@
+-- A run: the calls after a start, each with the bytes that it is lent, the earliest first; and what they do.
+-- Over the stamp's width w and the tag. Assumes nothing.
+use mathlib.Core.Bool.{Bool, true, false}
+use mathlib.Core.List.{List, [], _∷_, _++_}
+use Prim.Native.Nat.{ℕ}
+use Rattle.state.specs.Cells.{Entry}
+use Rattle.state.specs.Step.{Event, seen, Step}
+use Rattle.state.specs.Moves.{addOf, loadOf, storeOf, removeOf}
+use Rattle.state.specs.Check.{checkOf}
+use Rattle.state.specs.declared.State.{State}
+use Rattle.state.specs.declared.Verdict.the-variants.{Nothing}
+
+-- a call with its arguments, which may be any: an address, and the value given or the out buffer lent
+pub data Call : Type 0 where
+  add : ℕ → List ℕ → Call
+  load : ℕ → List ℕ → Call
+  store : ℕ → List ℕ → Call
+  remove : ℕ → Call
+  check : Call
+  look : ℕ → Call
+  count : Call
+  lowest : Call
+
+-- a call with the bytes that it is lent as the store: any bytes, and any number of them
+pub record Lent : Type 0 where
+  pub call : Call
+  pub bytes : List ℕ
+
+abbrev pub lent : Call → List ℕ → Lent
+lent c m = record { call = c; bytes = m }
+
+-- does the call take or put; look, count and lowest free do not
+abbrev pub moves : Call → Bool
+moves (add a v) = true
+moves (load a o) = true
+moves (store a v) = true
+moves (remove a) = true
+moves check = true
+moves (look a) = false
+moves count = false
+moves lowest = false
+
+-- 01: look, count and lowest free change nothing
+abbrev pub idle : State → List ℕ → Step
+idle s m = record { seen = seen 0 Nothing s m []; events = [] }
+
+module _ (w : ℕ) (tag : List ℕ → Entry → List ℕ) where
+  -- what a call gives and does
+  unfoldable pub step : State → List ℕ → Call → Step
+  step s m (add a v) = addOf w tag s m a v
+  step s m (load a o) = loadOf w tag s m a o
+  step s m (store a v) = storeOf w tag s m a v
+  step s m (remove a) = removeOf w tag s m a
+  step s m check = checkOf w tag s m
+  step s m (look a) = idle s m
+  step s m count = idle s m
+  step s m lowest = idle s m
+
+  -- each call gets the state that the call before gave back: the state after some calls, and all that they did, in order
+  unfoldable pub after : State → List Lent → State
+  after s [] = s
+  after s (x ∷ xs) = after (step s (x .bytes) (x .call) .seen .state) xs
+
+  unfoldable pub events : State → List Lent → List Event
+  events s [] = []
+  events s (x ∷ xs) = let r = step s (x .bytes) (x .call) in r .events ++ events (r .seen .state) xs

@@ -1,0 +1,158 @@
+-- Demand 3. In our words:
+--
+-- A run is a start with any key, refused or not, and after it any calls with any arguments, refused ones too. Each call gets the state that the call
+-- before gave back, and is lent any bytes as the store.
+--
+-- First half. If the last call is a check that accepts, then each load that was answered since the start gave the value last added or stored at its
+-- address; or else, for some accepted check of the run, no two of the entries put in its period are alike, and the entries put and the entries taken
+-- in its period are different multisets with equal hashes. The period of an accepted check is all that was done since the accepted check before it,
+-- or since the start: from the puts of that check on, to the takes of this one.
+--
+-- Second half. If the cells in use reach each call as they were left, each check that is not refused accepts.
+--
+-- It is stated by places: `run ≡ before ++ (x ∷ later)` says that the call x stands in the run after the calls `before`. Assumes nothing.
+use mathlib.Core.Path.{_≡_}
+use mathlib.Core.Bool.{Bool, true}
+use mathlib.Core.List.{List, [], _∷_, _++_}
+use mathlib.Core.Logic.{_⊎_, _≢_}
+use Prim.Native.Nat.{ℕ, _≤_}
+use Rattle.state.specs.Sizes.{width}
+use Rattle.state.specs.Marks.{used}
+use Rattle.state.specs.Cells.{Entry, entryAt}
+use Rattle.state.specs.Multiset.{hash}
+use Rattle.state.specs.Counts.{times}
+use Rattle.state.specs.Start.{startOf}
+use Rattle.state.specs.Step.{Event, took, put, answered, set, dropped, accepted, Step}
+use Rattle.state.specs.Check.{takes}
+use Rattle.state.specs.declared.State.{State}
+use Rattle.state.specs.declared.Verdict.the-variants.{Accept}
+use Rattle.run.specs.Calls.{Call, add, load, store, check, Lent, lent, moves, step, after, events}
+
+-- ---- multisets, by counts
+
+-- no two alike
+abbrev pub NoTwoAlike : List Entry → Type 0
+NoTwoAlike es = (e : Entry) → times e es ≤ 1
+
+-- different multisets: some entry is not as often in the one as in the other
+abbrev pub Differ : List Entry → List Entry → Type 0
+Differ ps ts = (e : Entry) × (times e ps ≢ times e ts)
+
+-- ---- events
+
+-- the entries put, and the entries taken
+unfoldable pub putIn : List Event → List Entry
+putIn [] = []
+putIn (put e ∷ es) = e ∷ putIn es
+putIn (took e ∷ es) = putIn es
+putIn (answered a v ∷ es) = putIn es
+putIn (set a v ∷ es) = putIn es
+putIn (dropped a ∷ es) = putIn es
+putIn (accepted ∷ es) = putIn es
+
+unfoldable pub takenIn : List Event → List Entry
+takenIn [] = []
+takenIn (put e ∷ es) = takenIn es
+takenIn (took e ∷ es) = e ∷ takenIn es
+takenIn (answered a v ∷ es) = takenIn es
+takenIn (set a v ∷ es) = takenIn es
+takenIn (dropped a ∷ es) = takenIn es
+takenIn (accepted ∷ es) = takenIn es
+
+-- `period` is what was done since the last accepted check, or since the start: before it is nothing or an accepted check, and in it is none
+pub record Since (all period : List Event) : Type 0 where
+  pub past : List Event
+  pub place : all ≡ past ++ period
+  pub begins : (past ≡ []) ⊎ ((old : List Event) × (past ≡ old ++ (accepted ∷ [])))
+  pub unbroken : (p q : List Event) → period ≡ p ++ (accepted ∷ q) → ⊥
+
+-- ---- the latest call of a run of which P holds; P before x: of the call x that stands after the calls before
+
+pub record Latest (P : List Lent → Lent → Type 0) (run : List Lent) : Type 0 where
+  pub before : List Lent
+  pub call : Lent
+  pub later : List Lent
+  pub place : run ≡ before ++ (call ∷ later)
+  pub holds : P before call
+  pub last : (p q : List Lent) (x : Lent) → later ≡ p ++ (x ∷ q) → P (before ++ (call ∷ p)) x → ⊥
+
+-- the call adds or stores v at a
+abbrev pub Sets : Call → ℕ → List ℕ → Type 0
+Sets c a v = (c ≡ add a v) ⊎ (c ≡ store a v)
+
+module _ (w : ℕ) (tag : List ℕ → Entry → List ℕ) (key : List ℕ) where
+  -- the state after a run, what a call that follows it gives, and all that a run did, in order
+  abbrev pub stateAfter : List Lent → State
+  stateAfter run = after w tag (startOf key .state) run
+
+  abbrev pub result : List Lent → Lent → Step
+  result before x = step w tag (stateAfter before) (x .bytes) (x .call)
+
+  abbrev pub eventsOf : List Lent → List Event
+  eventsOf run = events w tag (startOf key .state) run
+
+  -- the call is not refused
+  abbrev pub Done : List Lent → Lent → Type 0
+  Done before x = result before x .seen .number ≡ 0
+
+  -- a check accepts
+  abbrev pub Accepts : List Lent → List ℕ → Type 0
+  Accepts before m = result before (lent check m) .seen .verdict ≡ Accept
+
+  -- ---- first half
+
+  -- some value is added or stored at a; and v is the value last added or stored there, by the arguments of the latest such call
+  abbrev pub SetAt : ℕ → List Lent → Lent → Type 0
+  SetAt a before x = Done before x × (v : List ℕ) × Sets (x .call) a v
+
+  abbrev pub LastSet : List Lent → ℕ → List ℕ → Type 0
+  LastSet run a v = (l : Latest (SetAt a) run) × Sets (l .call .call) a v
+
+  -- each load at its place, where it is answered, gave the value last set at its address by the calls before it
+  abbrev pub EachLoad : List Lent → Type 0
+  EachLoad run =
+      (before later : List Lent) (a : ℕ) (o m : List ℕ) → run ≡ before ++ (lent (load a o) m ∷ later)
+      → Done before (lent (load a o) m) → LastSet before a (result before (lent (load a o) m) .seen .out)
+
+  -- for some check at its place, which accepts: its period is what was done since the accepted check before it, or since the start, its own takes included
+  pub record Collision (run : List Lent) : Type 0 where
+    pub before : List Lent
+    pub later : List Lent
+    pub bytes : List ℕ
+    pub place : run ≡ before ++ (lent check bytes ∷ later)
+    pub accepts : Accepts before bytes
+    pub period : List Event
+    pub since : Since (eventsOf before ++ takes w (stateAfter before) bytes) period
+    pub alike : NoTwoAlike (putIn period)
+    pub differ : Differ (putIn period) (takenIn period)
+    pub equal : hash (tag key) (putIn period) ≡ hash (tag key) (takenIn period)
+
+  -- the last call is a check that accepts
+  abbrev pub LastAccepts : List Lent → Type 0
+  LastAccepts run = (before : List Lent) × (m : List ℕ) × (run ≡ before ++ (lent check m ∷ [])) × Accepts before m
+
+  -- ---- second half
+
+  -- a call that is not refused, and no look, count or lowest free
+  abbrev pub Moved : List Lent → Lent → Type 0
+  Moved before x = Done before x × (moves (x .call) ≡ true)
+
+  -- each cell in use reaches each such call as the latest such call before it left it; all other bytes may be any
+  abbrev pub Unaltered : List Lent → Type 0
+  Unaltered run =
+      (before later : List Lent) (x : Lent) → run ≡ before ++ (x ∷ later) → Moved before x → (l : Latest Moved before)
+      → (a : ℕ) → used (stateAfter before .marks) a ≡ true → entryAt w (x .bytes) a ≡ entryAt w (result (l .before) (l .call) .seen .store) a
+
+  abbrev pub EachCheck : List Lent → Type 0
+  EachCheck run =
+      (before later : List Lent) (m : List ℕ) → run ≡ before ++ (lent check m ∷ later) → Done before (lent check m) → Accepts before m
+
+-- ---- demand 3, for a stamp of w bytes and any tag; and for today's width
+
+abbrev pub Demand3 : ℕ → (List ℕ → Entry → List ℕ) → Type 0
+Demand3 w tag =
+    (key : List ℕ) (run : List Lent)
+    → (LastAccepts w tag key run → EachLoad w tag key run ⊎ Collision w tag key run) × (Unaltered w tag key run → EachCheck w tag key run)
+
+abbrev pub Demand3Here : (List ℕ → Entry → List ℕ) → Type 0
+Demand3Here tag = Demand3 width tag

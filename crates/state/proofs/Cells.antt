@@ -1,0 +1,154 @@
+-- Cells do not meet: a write to one leaves every part of the store before it and past it as it was. Assumes nothing.
+use mathlib.Core.Path.{_≡_, refl, sym, ap, ap₂, _∙_}
+use mathlib.Core.Logic.{_⊎_, inl, inr, ⊎-elim}
+use mathlib.Core.Bool.{Bool, true, false}
+use mathlib.Core.List.{List, [], _∷_, _++_, append-assoc}
+use Prim.Native.Nat.{ℕ, zero, suc, _+_, _-_, _*_, _/_, _%_, _^_, _≤_, _<_}
+use native.Mathlib.Nat.{mul-le-mul-left, mul-suc}
+use native.Mathlib.Numerals.{add-one}
+use native.Mathlib.Omega.{arith}
+use borrow.Author.Tests.{ltb-true, ltb-false}
+use lib.Dec.{ltb}
+use lib.ListN.{length, getD, set, take, drop, length-append, length-drop, take-append-drop}
+use lib.Seq.{length-take-le, take-append-le, drop-append-le, take-at, drop-at, drop-drop, drop-cons, set-at, append-snoc}
+use Rattle.octets.specs.Layout.{number, bytes}
+use Rattle.octets.proofs.Layouts.{bytes-length, number-bytes, pow-bytes, bytes-2, number-2}
+use Rattle.state.specs.Sizes.{addresses, valueSize, cellSize, storeSize}
+use Rattle.refusal.specs.Refusal.{choose}
+use Rattle.state.specs.Marks.{used}
+use Rattle.state.specs.Cells.{entry, valueAt, stampAt, entryAt, writeCell, writeEntry}
+use Rattle.state.specs.Check.{opening, putBelow}
+
+-- the q elements from p on, where they lie in the first of two lists
+part-front : (p q : ℕ) (xs ys : List ℕ) → p + q ≤ length xs → take q (drop p (xs ++ ys)) ≡ take q (drop p xs)
+part-front p q xs ys h =
+    ap (take q) (drop-append-le p xs ys (omega arith)) ∙ take-append-le q (drop p xs) ys (omega (arith, length-drop p xs))
+
+-- where they lie in the second
+part-back : (p q n : ℕ) (xs ys zs : List ℕ) → length xs ≡ n → length zs ≡ n → n ≤ p → take q (drop p (xs ++ ys)) ≡ take q (drop p (zs ++ ys))
+part-back p q n xs ys zs k l h =
+    let e : n + (p - n) ≡ p = omega arith in
+    ap (take q) (rw (← e) (rw (← drop-drop (p - n) n (xs ++ ys), ← drop-drop (p - n) n (zs ++ ys), drop-at xs ys n k, drop-at zs ys n l)))
+
+-- the cell of an address lies in the store
+pub cell-within : (w a : ℕ) → a < addresses → cellSize w * a + cellSize w ≤ storeSize w
+unfolding storeSize
+cell-within w a h = omega (arith, mul-le-mul-left (cellSize w) h, mul-suc (cellSize w) a)
+
+-- two parts of n elements do not meet
+apart : (n a b : ℕ) → (b ≡ a → ⊥) → (n * b + n ≤ n * a) ⊎ (n * a + n ≤ n * b)
+apart n a b d = side (ltb b a) refl
+  where
+    side : (t : Bool) → ltb b a ≡ t → (n * b + n ≤ n * a) ⊎ (n * a + n ≤ n * b)
+    side true e = inl (omega (arith, mul-le-mul-left n (ltb-true b a e), mul-suc n b))
+    side false e = inr (let g : suc a ≤ b = omega (arith, ltb-false b a e) in omega (arith, mul-le-mul-left n g, mul-suc n a))
+
+pub value-length : (w : ℕ) (m : List ℕ) (a : ℕ) → a < addresses → length m ≡ storeSize w → length (valueAt w m a) ≡ valueSize
+unfolding valueAt cellSize
+value-length w m a h l = length-take-le valueSize (drop ((valueSize + w) * a) m) (omega (arith, length-drop ((valueSize + w) * a) m, cell-within w a h))
+
+module _ (w : ℕ) (m : List ℕ) (a : ℕ) (v : List ℕ) (t : ℕ) (h : a < addresses) (l : length m ≡ storeSize w) (k : length v ≡ valueSize) where
+  front : length (take (cellSize w * a) m) ≡ cellSize w * a
+  front = length-take-le (cellSize w * a) m (omega (arith, cell-within w a h))
+
+  cell : length (v ++ bytes w t) ≡ cellSize w
+  unfolding cellSize
+  cell = rw (length-append v (bytes w t), k, bytes-length w t)
+
+  pub write-length : length (writeCell w m a v t) ≡ storeSize w
+  unfolding writeCell
+  write-length = simp (length-append (take (cellSize w * a) m), length-append (v ++ bytes w t), length-drop) (omega (arith, front, cell, cell-within w a h))
+
+  -- from the cell on
+  at : drop (cellSize w * a) (writeCell w m a v t) ≡ v ++ (bytes w t ++ drop (cellSize w * a + cellSize w) m)
+  unfolding writeCell
+  at = drop-at (take (cellSize w * a) m) _ (cellSize w * a) front ∙ append-assoc v (bytes w t) _
+
+  pub value-written : valueAt w (writeCell w m a v t) a ≡ v
+  unfolding valueAt
+  value-written = ap (take valueSize) at ∙ take-at v _ valueSize k
+
+  pub stamp-written : t < 256 ^ w → stampAt w (writeCell w m a v t) a ≡ t
+  unfolding stampAt
+  stamp-written g =
+      ap (λ (x : List ℕ). number (take w x)) (sym (drop-drop valueSize (cellSize w * a) (writeCell w m a v t)) ∙ ap (drop valueSize) at ∙ drop-at v _ valueSize k)
+      ∙ ap number (take-at (bytes w t) _ w (bytes-length w t)) ∙ number-bytes w t (omega (arith, pow-bytes w))
+
+  -- a part of the store that does not meet the cell
+  before-cell : (p q : ℕ) → p + q ≤ cellSize w * a → take q (drop p (writeCell w m a v t)) ≡ take q (drop p m)
+  unfolding writeCell
+  before-cell p q g =
+      let n : ℕ = cellSize w * a in
+      part-front p q (take n m) _ (omega (arith, front)) ∙ sym (part-front p q (take n m) (drop n m) (omega (arith, front))) ∙ ap (λ (x : List ℕ). take q (drop p x)) (take-append-drop n m)
+
+  past-cell : (p q : ℕ) → cellSize w * a + cellSize w ≤ p → take q (drop p (writeCell w m a v t)) ≡ take q (drop p m)
+  unfolding writeCell
+  past-cell p q g =
+      let n : ℕ = cellSize w * a + cellSize w in
+      let f : length (take n m) ≡ n = length-take-le n m (omega (arith, cell-within w a h)) in
+      ap (λ (x : List ℕ). take q (drop p x)) (sym (append-assoc (take (cellSize w * a) m) (v ++ bytes w t) (drop n m)))
+      ∙ part-back p q n (take (cellSize w * a) m ++ (v ++ bytes w t)) (drop n m) (take n m) (length-append (take (cellSize w * a) m) (v ++ bytes w t) ∙ ap₂ (λ (x y : ℕ). x + y) front cell) f g
+      ∙ ap (λ (x : List ℕ). take q (drop p x)) (take-append-drop n m)
+
+  pub value-other : (b : ℕ) → (b ≡ a → ⊥) → valueAt w (writeCell w m a v t) b ≡ valueAt w m b
+  unfolding valueAt cellSize
+  value-other b d =
+      ⊎-elim (λ g. before-cell (cellSize w * b) valueSize (omega arith)) (λ g. past-cell (cellSize w * b) valueSize (omega arith)) (apart (cellSize w) a b d)
+
+  pub stamp-other : (b : ℕ) → (b ≡ a → ⊥) → stampAt w (writeCell w m a v t) b ≡ stampAt w m b
+  unfolding stampAt cellSize
+  stamp-other b d =
+      ap number
+      (⊎-elim (λ g. before-cell (cellSize w * b + valueSize) w (omega arith)) (λ g. past-cell (cellSize w * b + valueSize) w (omega arith))
+      (apart (cellSize w) a b d))
+
+  pub entry-other : (b : ℕ) → (b ≡ a → ⊥) → entryAt w (writeCell w m a v t) b ≡ entryAt w m b
+  unfolding entryAt
+  entry-other b d = ap₂ (entry b) (value-other b d) (stamp-other b d)
+
+  pub entry-written : t < 256 ^ w → entryAt w (writeCell w m a v t) a ≡ entry a v t
+  unfolding entryAt
+  entry-written g = ap₂ (entry a) value-written (stamp-written g)
+
+-- a stamp of two bytes written after n bytes
+pub stamp-filled : (v r : List ℕ) (n t : ℕ) → length v ≡ n → length r ≡ 2 → t < 65536 → set (set (v ++ r) n (t / 256)) (n + 1) (t % 256) ≡ v ++ bytes 2 t
+stamp-filled v [] n t l k h = absurd (omega arith)
+stamp-filled v (x ∷ []) n t l k h = absurd (omega arith)
+stamp-filled v (x ∷ y ∷ z ∷ r) n t l k h = absurd (omega arith)
+stamp-filled v (x ∷ y ∷ []) n t l k h =
+    let u : List ℕ = v ++ (t / 256 ∷ []) in
+    let e : t / 256 % 256 ≡ t / 256 = omega arith in
+    ap (λ (s : List ℕ). set s (n + 1) (t % 256)) (set-at v x (y ∷ []) (t / 256) n l ∙ sym (append-snoc v (t / 256) (y ∷ [])))
+    ∙ set-at u y [] (t % 256) (n + 1) (length-append v (t / 256 ∷ []) ∙ omega arith) ∙ append-snoc v (t / 256) (t % 256 ∷ []) ∙ sym (rw (bytes-2 t, e))
+
+-- a stamp of two bytes read from n on
+pub stamp-read : (m : List ℕ) (n : ℕ) → n + 1 < length m → number (take 2 (drop n m)) ≡ getD m n 0 * 256 + getD m (n + 1) 0
+stamp-read m n h =
+    ap (λ (l : List ℕ). number (take 2 l)) (drop-cons m n 0 (omega arith) ∙ ap (λ (l : List ℕ). getD m n 0 ∷ l) (drop-cons m (suc n) 0 (omega arith)))
+    ∙ number-2 (getD m n 0) (getD m (suc n) 0) ∙ rw add-one
+
+-- ---- the store after an accepted check
+
+puts-step : (b : Bool) (w : ℕ) (x m : List ℕ) (n : ℕ) → n < addresses → length m ≡ storeSize w → length x ≡ storeSize w
+    → length (choose b (writeEntry w x (opening w m n)) x) ≡ storeSize w
+unfolding writeEntry opening
+puts-step true w x m n h l k = write-length w x n (valueAt w m n) 1 h k (value-length w m n h l)
+puts-step false w x m n h l k = k
+
+pub puts-length : (w : ℕ) (ws m : List ℕ) (n : ℕ) → n ≤ addresses → length m ≡ storeSize w → length (putBelow w ws m n) ≡ storeSize w
+unfolding putBelow
+puts-length w ws m zero h l = l
+puts-length w ws m (suc n) h l = puts-step (used ws n) w (putBelow w ws m n) m n h l (puts-length w ws m n (omega arith) l)
+
+beyond-step : (b : Bool) (w : ℕ) (x m : List ℕ) (n a : ℕ) → n < addresses → n < a → length m ≡ storeSize w → length x ≡ storeSize w
+    → valueAt w (choose b (writeEntry w x (opening w m n)) x) a ≡ valueAt w x a
+unfolding writeEntry opening
+beyond-step true w x m n a h g l k = value-other w x n (valueAt w m n) 1 h k (value-length w m n h l) a (λ e. absurd (omega arith))
+beyond-step false w x m n a h g l k = refl
+
+-- a value not yet put again is as it was
+pub puts-beyond : (w : ℕ) (ws m : List ℕ) (n a : ℕ) → n ≤ a → a < addresses → length m ≡ storeSize w → valueAt w (putBelow w ws m n) a ≡ valueAt w m a
+unfolding putBelow
+puts-beyond w ws m zero a h g l = refl
+puts-beyond w ws m (suc n) a h g l =
+    beyond-step (used ws n) w (putBelow w ws m n) m n a (omega arith) h l (puts-length w ws m n (omega arith) l) ∙ puts-beyond w ws m n a (omega arith) g l

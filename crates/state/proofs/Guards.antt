@@ -1,0 +1,188 @@
+-- What each call does to the clock, to the fault mark and to the hashes, one short law for each sentence of the moves: by computation, or address by
+-- address. Assumes nothing.
+use mathlib.Core.Path.{_≡_, refl, sym, ap, _∙_}
+use mathlib.Core.Bool.{Bool, true, false, not, _&&_, _||_, false≢true, or-true}
+use mathlib.Core.List.{List, [], _∷_, _++_, append-assoc}
+use mathlib.Core.Logic.{_⊎_, inl, inr}
+use Prim.Native.Nat.{ℕ, zero, suc, _+_, _<_}
+use native.Mathlib.Omega.{arith}
+use lib.Dec.{eqb, ltb}
+use borrow.Author.Tests.{eqb-true, eqb-false, ltb-true, lt-ltb, not-true}
+use Rattle.refusal.specs.Refusal.{first, choose, done}
+use Rattle.state.specs.Sizes.{addresses}
+use Rattle.state.specs.Marks.{used, unmarked}
+use Rattle.state.specs.Cells.{Entry, entry, valueAt, stampAt, entryAt}
+use Rattle.state.specs.Multiset.{emptyHash, withTag, sameHash}
+use Rattle.state.specs.Step.{Event, took, put, seen, step, withMarks, shut, next, takeEntry, putEntry}
+use Rattle.state.specs.Moves.{call, added, loaded, stored, removed}
+use Rattle.state.specs.Check.{checkRows, inUse, opened, opening, agrees, takes, puts, takeBelow, openBelow, acceptance, rejection, checkOf}
+use Rattle.state.specs.declared.State.{State}
+use Rattle.state.specs.declared.Verdict.{Verdict}
+use Rattle.state.specs.declared.Verdict.the-variants.{Accept, Reject, Nothing}
+use Rattle.state.proofs.Marks.{both}
+use Rattle.state.proofs.Multiset.{sameHash-true, equal-sameHash}
+
+-- ---- 01, Take and Put
+
+module _ (tag : List ℕ → Entry → List ℕ) (s : State) where
+  -- a put raises the clock by 1, and the raised clock is its stamp
+  pub put-raises : (a : ℕ) (v : List ℕ) → (next s a v .stamp ≡ s .clock + 1) × (putEntry tag s (next s a v) .clock ≡ s .clock + 1)
+  unfolding next putEntry
+  put-raises a v = (refl, refl)
+
+  -- its entry is added to the put hash, and to that alone
+  pub put-hashes : (e : Entry) → (putEntry tag s e .put ≡ withTag (s .put) (tag (s .key) e)) × (putEntry tag s e .take ≡ s .take)
+  unfolding putEntry
+  put-hashes e = (refl, refl)
+
+  -- a take adds the entry to the take hash, and to that alone
+  pub take-hashes : (e : Entry) → (takeEntry tag s e .take ≡ withTag (s .take) (tag (s .key) e)) × (takeEntry tag s e .put ≡ s .put)
+  unfolding takeEntry
+  take-hashes e = (refl, refl)
+
+  -- and marks a fault exactly where one was marked or the stamp is above the clock
+  pub fault-marked : (e : Entry) → takeEntry tag s e .fault ≡ true → (s .fault ≡ true) ⊎ (s .clock < e .stamp)
+  unfolding takeEntry
+  fault-marked e h = go (s .fault) refl
+    where
+      go : (b : Bool) → s .fault ≡ b → (s .fault ≡ true) ⊎ (s .clock < e .stamp)
+      go true q = inl q
+      go false q = inr (ltb-true (s .clock) (e .stamp) (sym (ap (λ (b : Bool). b || ltb (s .clock) (e .stamp)) q) ∙ h))
+
+  pub marks-fault : (e : Entry) → (s .fault ≡ true) ⊎ (s .clock < e .stamp) → takeEntry tag s e .fault ≡ true
+  unfolding takeEntry
+  marks-fault e (inl h) = rw h
+  marks-fault e (inr h) = rw (lt-ltb (s .clock) (e .stamp) h, or-true)
+
+-- ---- the calls
+
+module _ (w : ℕ) (tag : List ℕ → Entry → List ℕ) (s : State) (m : List ℕ) where
+  -- add puts, and takes nothing
+  pub add-moves : (a : ℕ) (v : List ℕ) → let t = added w tag s m a v .seen .state in
+      (t .clock ≡ s .clock + 1) × (t .put ≡ withTag (s .put) (tag (s .key) (entry a v (s .clock + 1)))) × (t .take ≡ s .take) × (t .fault ≡ s .fault)
+  unfolding added withMarks putEntry next
+  add-moves a v = (refl, refl, refl, refl)
+
+  -- load and store take what the cell holds, the stamp compared with the clock at entry, and put once: the same value, or the new one
+  abbrev Exchanged : State → ℕ → List ℕ → Type 0
+  Exchanged t a v =
+      (t .clock ≡ s .clock + 1) × (t .put ≡ withTag (s .put) (tag (s .key) (entry a v (s .clock + 1)))) × (t .take ≡ withTag (s .take) (tag (s .key) (entryAt w m a)))
+      × (t .fault ≡ (s .fault || ltb (s .clock) (stampAt w m a)))
+
+  pub load-moves : (a : ℕ) → Exchanged (loaded w tag s m a .seen .state) a (valueAt w m a) × (loaded w tag s m a .seen .out ≡ valueAt w m a)
+  unfolding loaded takeEntry putEntry next entryAt
+  load-moves a = ((refl, refl, refl, refl), refl)
+
+  pub store-moves : (a : ℕ) (v : List ℕ) → Exchanged (stored w tag s m a v .seen .state) a v
+  unfolding stored takeEntry putEntry next entryAt
+  store-moves a v = (refl, refl, refl, refl)
+
+  -- remove takes, and the clock stays
+  pub remove-moves : (a : ℕ) → let t = removed w tag s m a .seen .state in
+      (t .clock ≡ s .clock) × (t .put ≡ s .put) × (t .take ≡ withTag (s .take) (tag (s .key) (entryAt w m a))) × (t .marks ≡ unmarked (s .marks) a)
+  unfolding removed withMarks takeEntry
+  remove-moves a = (refl, refl, refl, refl)
+
+  -- ---- 01, Check
+
+  -- a check that is not refused accepts exactly where after its takes the hashes are equal and no fault is marked
+  pub check-accepts : first (checkRows w s m) ≡ 0 → takeBelow w tag s m addresses .put ≡ takeBelow w tag s m addresses .take → takeBelow w tag s m addresses .fault ≡ false
+      → checkOf w tag s m .seen .verdict ≡ Accept
+  unfolding checkOf call agrees acceptance rejection
+  check-accepts e h f = rw (e, equal-sameHash _ _ h, f)
+
+  pub accepts-check : first (checkRows w s m) ≡ 0 → checkOf w tag s m .seen .verdict ≡ Accept
+      → (takeBelow w tag s m addresses .put ≡ takeBelow w tag s m addresses .take) × (takeBelow w tag s m addresses .fault ≡ false)
+  unfolding checkOf call agrees acceptance rejection
+  accepts-check e v = go (agrees t) refl (sym (ap (λ (n : ℕ). done n (choose (agrees t) (acceptance w tag s m) (rejection w tag s m)) (step (seen n Nothing s m []) []) .seen .verdict) e) ∙ v)
+    where
+      t : State
+      t = takeBelow w tag s m addresses
+
+      go : (b : Bool) → agrees t ≡ b → choose b (acceptance w tag s m) (rejection w tag s m) .seen .verdict ≡ Accept → (t .put ≡ t .take) × (t .fault ≡ false)
+      go true h k = let p = both (sameHash (t .put) (t .take)) (not (t .fault)) h in (sameHash-true _ _ (p .0), not-true _ (p .1))
+      go false h k = let y : _≡_ {A = ℕ} 0 1 = cc in absurd (omega arith)
+
+  -- accepted: the take hash begins empty, and the clock is 1, also with no address in use; each put has its cell's value and stamp 1
+  opened-below : (n : ℕ) → (openBelow w tag s m n .clock ≡ 1) × (openBelow w tag s m n .take ≡ emptyHash)
+  unfolding openBelow opened putEntry opening
+  opened-below zero = (refl, refl)
+  opened-below (suc n) = go (used (s .marks) n) (opened-below n)
+    where
+      go : (b : Bool) → (openBelow w tag s m n .clock ≡ 1) × (openBelow w tag s m n .take ≡ emptyHash)
+          → let t = choose b (putEntry tag (openBelow w tag s m n) (opening w m n)) (openBelow w tag s m n) in (t .clock ≡ 1) × (t .take ≡ emptyHash)
+      go true h = (refl, h .1)
+      go false h = h
+
+  pub accepted-opens : let t = acceptance w tag s m .seen .state in (t .clock ≡ 1) × (t .take ≡ emptyHash)
+  unfolding acceptance
+  accepted-opens = opened-below addresses
+
+  pub opening-put : (a : ℕ) → opening w m a ≡ entry a (valueAt w m a) 1
+  unfolding opening
+  opening-put a = refl
+
+  -- rejected: the store is unchanged, and the state is as at entry but closed
+  pub rejected-closes : let r = rejection w tag s m .seen in
+      (r .state .closed ≡ true) × (r .state .fault ≡ s .fault) × (r .state .clock ≡ s .clock) × (r .state .put ≡ s .put) × (r .state .take ≡ s .take) × (r .state .marks ≡ s .marks)
+      × (r .store ≡ m)
+  unfolding rejection shut
+  rejected-closes = (refl, refl, refl, refl, refl, refl, refl)
+
+-- ---- every address in use has its place
+
+-- in what stands at the addresses in use below n
+used-place : {A : Type 0} (x : ℕ → A) (ws : List ℕ) (n a : ℕ) → a < n → used ws a ≡ true → (p : List A) × (q : List A) × (inUse x ws n ≡ p ++ (x a ∷ q))
+unfolding inUse
+used-place x ws zero a h u = absurd (omega arith)
+used-place {A} x ws (suc n) a h u = go (eqb a n) refl (used-place x ws n a)
+  where
+    go : (b : Bool) → eqb a n ≡ b → (a < n → used ws a ≡ true → (p : List A) × (q : List A) × (inUse x ws n ≡ p ++ (x a ∷ q)))
+        → (p : List A) × (q : List A) × (inUse x ws n ++ choose (used ws n) (x n ∷ []) [] ≡ p ++ (x a ∷ q))
+    go true e ih =
+        let k = eqb-true a n e in
+        let y : used ws n ≡ true = ap (used ws) (sym k) ∙ u in
+        (inUse x ws n, [], rw (y, k))
+    go false e ih =
+        let k : (a ≡ n) → ⊥ = eqb-false a n e in
+        let r = ih (omega arith) u in
+        (r .0, r .1 ++ choose (used ws n) (x n ∷ []) [], ap (λ (l : List A). l ++ choose (used ws n) (x n ∷ []) []) (r .2) ∙ append-assoc (r .0) (x a ∷ r .1) (choose (used ws n) (x n ∷ []) []))
+
+-- one entry after the other
+abbrev pub inTurn : (State → Entry → State) → State → List Entry → State
+inTurn f t [] = t
+inTurn f t (e ∷ es) = inTurn f (f t e) es
+
+in-turn : (f : State → Entry → State) (t : State) (p q : List Entry) → inTurn f t (p ++ q) ≡ inTurn f (inTurn f t p) q
+in-turn f t [] q = refl
+in-turn f t (e ∷ p) q = in-turn f (f t e) p q
+
+in-turn-used : (f : State → Entry → State) (t u : State) (es : List Entry) (e : Entry) (b : Bool) → u ≡ inTurn f t es → choose b (f u e) u ≡ inTurn f t (es ++ choose b (e ∷ []) [])
+in-turn-used f t u es e b h = go b ∙ sym (in-turn f t es (choose b (e ∷ []) []))
+  where
+    go : (b : Bool) → choose b (f u e) u ≡ inTurn f (inTurn f t es) (choose b (e ∷ []) [])
+    go true = ap (λ (x : State). f x e) h
+    go false = h
+
+module _ (w : ℕ) (tag : List ℕ → Entry → List ℕ) (s : State) (m : List ℕ) where
+  -- a check takes each address in use, and puts each again where it accepts
+  pub takes-each : (a : ℕ) → a < addresses → used (s .marks) a ≡ true → (p : List Event) × (q : List Event) × (takes w s m ≡ p ++ (took (entryAt w m a) ∷ q))
+  unfolding takes
+  takes-each = used-place (λ a. took (entryAt w m a)) (s .marks) addresses
+
+  pub puts-each : (a : ℕ) → a < addresses → used (s .marks) a ≡ true → (p : List Event) × (q : List Event) × (puts w s m ≡ p ++ (put (opening w m a) ∷ q))
+  unfolding puts
+  puts-each = used-place (λ a. put (opening w m a)) (s .marks) addresses
+
+  -- and so does its state: it is that after these entries, one after the other
+  pub taken-each : (n : ℕ) → takeBelow w tag s m n ≡ inTurn (takeEntry tag) s (inUse (entryAt w m) (s .marks) n)
+  unfolding takeBelow inUse
+  taken-each zero = refl
+  taken-each (suc n) =
+      in-turn-used (takeEntry tag) s (takeBelow w tag s m n) (inUse (entryAt w m) (s .marks) n) (entryAt w m n) (used (s .marks) n) (taken-each n)
+
+  pub opened-each : (n : ℕ) → openBelow w tag s m n ≡ inTurn (putEntry tag) (opened s) (inUse (opening w m) (s .marks) n)
+  unfolding openBelow inUse
+  opened-each zero = refl
+  opened-each (suc n) =
+      in-turn-used (putEntry tag) (opened s) (openBelow w tag s m n) (inUse (opening w m) (s .marks) n) (opening w m n) (used (s .marks) n) (opened-each n)

@@ -1,0 +1,30 @@
+-- `store::add` meets its contract: by its number. Assumes nothing.
+use borrow.Author.Needs.{needs}
+use mathlib.Core.Path.{sym, _∙_}
+use mir.Syntax.{w16}
+use mir.Val.{Fits}
+use Rattle.state.specs.Moves.{addOf}
+use Rattle.store.proofs.Rows.{add-ready, clock-below, done-seen, refused-seen}
+use Rattle.store.proofs.add.Statement.{statement}
+use Rattle.store.proofs.add.Tie as tie
+
+added-requires : tie.Need-added-requires
+added-requires c κs =
+    let b = c .before .before in
+    let x = b .before .before .before .before .args in
+    let f : Fits w16 (x .s .clock) = search needs in
+    let r = add-ready 2 (x .s) (x .store .now) (x .a) (x .value .now) (sym (b .add .ensures) ∙ c .before .if1 .taken) in
+    (r .whole, r .within, r .sized, clock-below (x .s .clock) (f .fits) (r .below))
+
+returns : tie.Need-returns
+unfolding addOf
+returns c =
+    let b = c .before .before .before .before in
+    done-seen _ _ _ _ _ (b .before .add .ensures) (b .if1 .taken) (c .before .before .added .ensures)
+
+returns-2 : tie.Need-returns-2
+unfolding addOf
+returns-2 c = refused-seen _ _ _ _ _ (c .before .add .ensures) (c .if1 .left)
+
+pub add-spec : {M : Type 1} → statement M
+add-spec = tie.close (tie.spec (λ c κs. search needs) added-requires (λ c. search needs) returns (λ c. search needs) returns-2)

@@ -1,0 +1,33 @@
+-- `store::cells::write` meets its contract: the cell's part of the store is put back filled. Assumes nothing.
+use borrow.Author.Needs.{needs}
+use mathlib.Core.Path.{_≡_, ap₂}
+use mathlib.Core.List.{List, _++_}
+use Prim.Native.Nat.{ℕ, _+_, _*_}
+use native.Mathlib.Omega.{arith}
+use borrow.Rule.Slice.PartMut.{post-is}
+use lib.ListN.{take}
+use Rattle.state.specs.Sizes.{addresses, valueSize, cellSize, storeSize}
+use Rattle.state.specs.Cells.{writeCell}
+use Rattle.store.proofs.cells.write.Statement.{statement}
+use Rattle.store.proofs.cells.write.Tie as tie
+
+returns : tie.Need-returns
+unfolding addresses valueSize cellSize storeSize writeCell
+returns c =
+    let x = c .before .before .before .before .before .args in
+    ap₂ (λ (k l : List ℕ). take (30 * x .a) (x .store .now) ++ (k ++ l)) (c .before .before .fill .ensures)
+    (post-is (30 * x .a) (30 * x .a + 30) (x .store .now) (omega arith))
+
+pub write-spec : {M : Type 1} → statement M
+unfolding addresses valueSize cellSize storeSize
+write-spec =
+    tie.close
+    (tie.spec
+    (λ c. search needs)
+    (λ c. search needs)
+    (λ c. search needs)
+    (λ c. search needs)
+    (λ c. search needs)
+    (λ c κs. search needs)
+    (λ c. search needs)
+    returns)

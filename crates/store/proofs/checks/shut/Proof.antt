@@ -1,0 +1,12 @@
+-- `store::checks::shut` meets its contract: the struct that it makes is the definition's. Assumes nothing.
+use mathlib.Core.Path.{refl}
+use Rattle.state.specs.Step.{shut}
+use Rattle.store.proofs.checks.shut.Statement.{statement}
+use Rattle.store.proofs.checks.shut.Tie as tie
+
+returns : tie.Need-returns
+unfolding shut
+returns c = refl
+
+pub shut-spec : {M : Type 1} → statement M
+shut-spec = tie.close (tie.spec returns)

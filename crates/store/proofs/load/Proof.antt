@@ -1,0 +1,33 @@
+-- `store::load` meets its contract: by its number. Assumes nothing.
+use borrow.Author.Needs.{needs}
+use mathlib.Core.Path.{sym, _∙_}
+use mir.Syntax.{w16}
+use mir.Val.{Fits}
+use Rattle.state.specs.Moves.{loadOf}
+use Rattle.store.proofs.Rows.{use-ready, clock-below, done-seen, refused-seen}
+use Rattle.store.proofs.load.Statement.{statement}
+use Rattle.store.proofs.load.Tie as tie
+
+loaded-requires : tie.Need-loaded-requires
+loaded-requires c κs =
+    let b = c .before .before .before in
+    let x = b .before .before .before .before .before .args in
+    let f : Fits w16 (x .s .clock) = search needs in
+    let r = use-ready 2 (x .s) (x .store .now) (x .a) (x .out .now) (sym (b .use-of .ensures) ∙ c .before .before .if1 .taken) in
+    (r .whole, r .within, r .sized, clock-below (x .s .clock) (f .fits) (r .below))
+
+returns : tie.Need-returns
+unfolding loadOf
+returns c =
+    let d = c .before .before .before .before in
+    let b = d .before .before .before in
+    done-seen _ _ _ _ _ (b .before .use-of .ensures) (b .if1 .taken) (d .loaded .ensures)
+
+returns-2 : tie.Need-returns-2
+unfolding loadOf
+returns-2 c = refused-seen _ _ _ _ _ (c .before .use-of .ensures) (c .if1 .left)
+
+pub load-spec : {M : Type 1} → statement M
+load-spec =
+    tie.close
+    (tie.spec (λ c κs. search needs) loaded-requires (λ c. search needs) (λ c. search needs) returns (λ c. search needs) (λ c. search needs) returns-2)

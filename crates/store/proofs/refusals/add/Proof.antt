@@ -1,0 +1,16 @@
+-- `store::refusals::add` meets its contract: it takes the rows of the table one after another. Assumes nothing.
+use borrow.Author.Needs.{needs}
+use Rattle.state.specs.Sizes.{addresses, valueSize, cellSize, storeSize, ceiling}
+use Rattle.state.specs.Moves.{addRows}
+use Rattle.store.proofs.Rows.{rows-first}
+use Rattle.store.proofs.refusals.add.Statement.{statement}
+use Rattle.store.proofs.refusals.add.Tie as tie
+
+returns : tie.Need-returns
+unfolding addRows addresses valueSize cellSize storeSize ceiling
+returns c =
+    let x = c .before .before .before .before .before .before .before .before .before .before .before .args in
+    rw (c .row6 .ensures, c .before .before .row5 .ensures, c .before .before .before .used .ensures, c .before .before .before .before .row4 .ensures, c .before .before .before .before .before .row3 .ensures, c .before .before .before .before .before .before .row2 .ensures, c .before .before .before .before .before .before .before .row .ensures) (rows-first (addRows 2 (x .s) (x .store .now) (x .a) (x .value .now)) tt)
+
+pub add-spec : {M : Type 1} → statement M
+add-spec = tie.close (tie.spec (λ c κs. search needs) (λ c κs. search needs) (λ c κs. search needs) (λ c κs. search needs) (λ c κs. search needs) (λ c κs. search needs) (λ c κs. search needs) returns)

@@ -1,0 +1,16 @@
+-- `store::refusals::look` meets its contract: it takes the rows of the table one after another. Assumes nothing.
+use borrow.Author.Needs.{needs}
+use Rattle.state.specs.Sizes.{addresses, valueSize, cellSize, storeSize}
+use Rattle.state.specs.Moves.{lookRows}
+use Rattle.store.proofs.Rows.{rows-first}
+use Rattle.store.proofs.refusals.look.Statement.{statement}
+use Rattle.store.proofs.refusals.look.Tie as tie
+
+returns : tie.Need-returns
+unfolding lookRows addresses valueSize cellSize storeSize
+returns c =
+    let x = c .before .before .before .args in
+    rw (c .row2 .ensures, c .before .row .ensures) (rows-first (lookRows 2 (x .store .now) (x .a)) tt)
+
+pub look-spec : {M : Type 1} → statement M
+look-spec = tie.close (tie.spec (λ c κs. search needs) (λ c κs. search needs) returns)

@@ -1,0 +1,16 @@
+-- `store::refusals::remove` meets its contract: it takes the rows of the table one after another. Assumes nothing.
+use borrow.Author.Needs.{needs}
+use Rattle.state.specs.Sizes.{addresses, valueSize, cellSize, storeSize}
+use Rattle.state.specs.Moves.{removeRows}
+use Rattle.store.proofs.Rows.{rows-first}
+use Rattle.store.proofs.refusals.remove.Statement.{statement}
+use Rattle.store.proofs.refusals.remove.Tie as tie
+
+returns : tie.Need-returns
+unfolding removeRows addresses valueSize cellSize storeSize
+returns c =
+    let x = c .before .before .before .before .before .before .before .args in
+    rw (c .row4 .ensures, c .before .used .ensures, c .before .before .row3 .ensures, c .before .before .before .row2 .ensures, c .before .before .before .before .row .ensures) (rows-first (removeRows 2 (x .s) (x .store .now) (x .a)) tt)
+
+pub remove-spec : {M : Type 1} → statement M
+remove-spec = tie.close (tie.spec (λ c κs. search needs) (λ c κs. search needs) (λ c κs. search needs) (λ c κs. search needs) (λ c κs. search needs) returns)

@@ -1,0 +1,13 @@
+-- `store::refusals::row` meets its contract: by its two tests. Assumes nothing.
+use borrow.Author.Needs.{needs}
+use mathlib.Core.Path.{sym}
+use mathlib.Core.Logic.{⊎-elim}
+use Rattle.store.proofs.Rows.{done-other}
+use Rattle.store.proofs.refusals.row.Statement.{statement}
+use Rattle.store.proofs.refusals.row.Tie as tie
+
+returns-2 : tie.Need-returns-2
+returns-2 c = ⊎-elim (λ w. search needs) (λ w. sym (done-other _ _ _ (w .left))) (c .if1 .came)
+
+pub row-spec : {M : Type 1} → statement M
+row-spec = tie.close (tie.spec (λ c. search needs) returns-2)

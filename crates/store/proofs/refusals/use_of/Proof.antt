@@ -1,0 +1,16 @@
+-- `store::refusals::use_of` meets its contract: it takes the rows of the table one after another. Assumes nothing.
+use borrow.Author.Needs.{needs}
+use Rattle.state.specs.Sizes.{addresses, valueSize, cellSize, storeSize, ceiling}
+use Rattle.state.specs.Moves.{useRows}
+use Rattle.store.proofs.Rows.{rows-first}
+use Rattle.store.proofs.refusals.use_of.Statement.{statement}
+use Rattle.store.proofs.refusals.use_of.Tie as tie
+
+returns : tie.Need-returns
+unfolding useRows addresses valueSize cellSize storeSize ceiling
+returns c =
+    let x = c .before .before .before .before .before .before .before .before .before .before .before .args in
+    rw (c .row6 .ensures, c .before .before .row5 .ensures, c .before .before .before .used .ensures, c .before .before .before .before .row4 .ensures, c .before .before .before .before .before .row3 .ensures, c .before .before .before .before .before .before .row2 .ensures, c .before .before .before .before .before .before .before .row .ensures) (rows-first (useRows 2 (x .s) (x .store .now) (x .a) (x .buffer .now)) tt)
+
+pub use-of-spec : {M : Type 1} → statement M
+use-of-spec = tie.close (tie.spec (λ c κs. search needs) (λ c κs. search needs) (λ c κs. search needs) (λ c κs. search needs) (λ c κs. search needs) (λ c κs. search needs) (λ c κs. search needs) returns)

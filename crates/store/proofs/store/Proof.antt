@@ -1,0 +1,30 @@
+-- `store::store` meets its contract: by its number. Assumes nothing.
+use borrow.Author.Needs.{needs}
+use mathlib.Core.Path.{sym, _∙_}
+use mir.Syntax.{w16}
+use mir.Val.{Fits}
+use Rattle.state.specs.Moves.{storeOf}
+use Rattle.store.proofs.Rows.{use-ready, clock-below, done-seen, refused-seen}
+use Rattle.store.proofs.store.Statement.{statement}
+use Rattle.store.proofs.store.Tie as tie
+
+stored-requires : tie.Need-stored-requires
+stored-requires c κs =
+    let b = c .before .before in
+    let x = b .before .before .before .before .args in
+    let f : Fits w16 (x .s .clock) = search needs in
+    let r = use-ready 2 (x .s) (x .store .now) (x .a) (x .value .now) (sym (b .use-of .ensures) ∙ c .before .if1 .taken) in
+    (r .whole, r .within, r .sized, clock-below (x .s .clock) (f .fits) (r .below))
+
+returns : tie.Need-returns
+unfolding storeOf
+returns c =
+    let b = c .before .before .before .before in
+    done-seen _ _ _ _ _ (b .before .use-of .ensures) (b .if1 .taken) (c .before .before .stored .ensures)
+
+returns-2 : tie.Need-returns-2
+unfolding storeOf
+returns-2 c = refused-seen _ _ _ _ _ (c .before .use-of .ensures) (c .if1 .left)
+
+pub store-spec : {M : Type 1} → statement M
+store-spec = tie.close (tie.spec (λ c κs. search needs) stored-requires (λ c. search needs) returns (λ c. search needs) returns-2)

@@ -1,0 +1,58 @@
+// The cells of a lent store: the value, then the stamp, most significant byte first.
+use state::State;
+ghost use mathlib.Core.Path.{_≡_};
+ghost use mathlib.Core.List.{_++_};
+ghost use Prim.Native.Nat.{_<_};
+ghost use lib.ListN.{length};
+ghost use Rattle.octets.specs.Layout.{bytes};
+ghost use Rattle.state.specs.Sizes.{width, addresses, cellSize, storeSize};
+ghost use Rattle.state.specs.Cells.{valueAt, stampAt, writeCell};
+
+// The part of the store that is an address's value.
+pub fn value_part(store: &[u8], a: usize) -> &[u8]
+    requires { ⌜ (length (now store) ≡ storeSize width) × (a < addresses) ⌝ }
+    ensures { λ r. ⌜ now r ≡ valueAt width (now (store .entry)) a ⌝ }
+{
+    let at = State::CELL * a;
+    let end = at + State::VALUE;
+    &store[at..end]
+}
+
+// The value that a store holds at an address.
+pub fn value_at(store: &[u8], a: usize) -> [u8; State::VALUE]
+    requires { ⌜ (length (now store) ≡ storeSize width) × (a < addresses) ⌝ }
+    ensures { λ r. ⌜ r ≡ valueAt width (now (store .entry)) a ⌝ }
+{
+    let mut v = [0u8; State::VALUE];
+    lent::copy(&mut v, value_part(store, a));
+    v
+}
+
+// The stamp that a store holds at an address.
+pub fn stamp_at(store: &[u8], a: usize) -> u16
+    requires { ⌜ (length (now store) ≡ storeSize width) × (a < addresses) ⌝ }
+    ensures { λ r. ⌜ r ≡ stampAt width (now (store .entry)) a ⌝ }
+{
+    let at = State::CELL * a + State::VALUE;
+    store[at] as u16 * 256 + store[at + 1] as u16
+}
+
+// Fills a cell.
+fn fill(cell: &mut [u8], value: [u8; State::VALUE], stamp: u16)
+    requires { ⌜ length (now cell) ≡ cellSize width ⌝ }
+    ensures { λ _. ⌜ now (cell .exit) ≡ value ++ bytes width stamp ⌝ }
+{
+    lent::copy(cell, &value);
+    cell[State::VALUE] = (stamp / 256) as u8;
+    cell[State::VALUE + 1] = (stamp % 256) as u8;
+}
+
+// Writes a value and a stamp to the cell of an address.
+pub fn write(store: &mut [u8], a: usize, value: [u8; State::VALUE], stamp: u16)
+    requires { ⌜ (length (now store) ≡ storeSize width) × (a < addresses) ⌝ }
+    ensures { λ _. ⌜ now (store .exit) ≡ writeCell width (now (store .entry)) a value stamp ⌝ }
+{
+    let at = State::CELL * a;
+    let end = at + State::CELL;
+    fill(&mut store[at..end], value, stamp);
+}
