@@ -27,7 +27,8 @@ use Rattle.run.proofs.Lists.{by-last}
 use Rattle.run.proofs.Logs.{Log, putL, takeL, noLog, noted, follow}
 use Rattle.run.proofs.Micro.{Stamps, take-stamps, put-stamps}
 use Rattle.run.proofs.Walk.{by-choose, takenL, taken-puts, taken-log, openL, opened-log, open-clock, open-stamps, open-same}
-use Rattle.run.proofs.Ready.{rowsOf, refusedStep, whenDone, by-call, add-ready, use-ready, remove-ready, check-ready}
+use Rattle.state.proofs.Ready.{add-ready, use-ready, remove-ready, check-ready}
+use Rattle.run.proofs.Steps.{rowsOf, refusedStep, whenDone, by-call}
 use Rattle.run.proofs.Runs.{by-start, logOf, state-last, events-last, by-step}
 
 -- a call that takes or puts is refused where the state is closed

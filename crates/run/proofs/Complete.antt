@@ -22,7 +22,7 @@ use Rattle.run.specs.Demand3.{Latest, stateAfter, result, Done, Accepts,
 use Rattle.run.proofs.Lists.{by-last, place-stays}
 use Rattle.run.proofs.Logs.{Log, noLog, follow}
 use Rattle.run.proofs.Balance.{Balance}
-use Rattle.run.proofs.Ready.{rowsOf, refusedStep, whenDone, by-call, step-done, done-number, number-done}
+use Rattle.run.proofs.Steps.{rowsOf, refusedStep, whenDone, by-call, step-done, done-number, number-done}
 use Rattle.run.proofs.Runs.{by-start, logOf, by-step, latest-here, latest-keeps}
 use Rattle.run.proofs.Moves.{there}
 use Rattle.run.proofs.Always.{not-closed, stamps, clock-bounded}

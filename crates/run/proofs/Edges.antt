@@ -17,7 +17,7 @@ use Rattle.state.proofs.Starts.{start-done}
 use Rattle.run.specs.Calls.{Call, add, load, store, remove, check, look, count, lowest, Lent, lent, after, events}
 use Rattle.run.specs.Demand3.{Latest, Sets, stateAfter, result, eventsOf, Done, Accepts, LastSet, EachLoad, LastAccepts, Moved}
 use Rattle.run.proofs.Lists.{by-last, place-in, no-place, last-place, place-stays}
-use Rattle.run.proofs.Ready.{by-call, done-number}
+use Rattle.run.proofs.Steps.{by-call, done-number}
 use Rattle.run.proofs.Runs.{state-last, events-last}
 use Rattle.run.proofs.Complete.{complete-at}
 

@@ -29,7 +29,8 @@ use Rattle.run.proofs.Logs.{Log, upd, putL, takeL, noted, follow}
 use Rattle.run.proofs.Balance.{upd-same, upd-other, upd-here, heldTimes, Balance, take-balance, put-balance}
 use Rattle.run.proofs.Micro.{Stamps, Hashed}
 use Rattle.run.proofs.Walk.{by-choose, below-suc, walk, takenL, taken-above, taken-none, taken-gone, taken-hashed, openL, opened-log, open-balance, open-same}
-use Rattle.run.proofs.Ready.{rowsOf, whenDone, Ready, add-ready, use-ready, remove-ready, check-ready}
+use Rattle.state.proofs.Ready.{Ready, add-ready, use-ready, remove-ready, check-ready}
+use Rattle.run.proofs.Steps.{rowsOf, whenDone}
 use Rattle.run.proofs.Moves.{there, Fit, free, opened-held}
 use Rattle.run.proofs.Always.{ceiling-one}
 

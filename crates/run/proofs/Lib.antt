@@ -3,7 +3,7 @@ pub mod Logs
 pub mod Balance
 pub mod Micro
 pub mod Walk
-pub mod Ready
+pub mod Steps
 pub mod Runs
 pub mod Moves
 pub mod Always

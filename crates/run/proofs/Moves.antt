@@ -22,7 +22,7 @@ use Rattle.run.proofs.Logs.{Log, upd, putL, takeL, noLog, noted, follow
 use Rattle.run.proofs.Balance.{upd-same, upd-other, upd-here}
 use Rattle.run.proofs.Micro.{Hashed, Status, faulty, bad, good, status-map, take-hashed, put-hashed, take-status, put-status}
 use Rattle.run.proofs.Walk.{takenL, openL, Right, Told, check-tells, open-above, open-held, open-balance, open-hashed, open-same}
-use Rattle.run.proofs.Ready.{Ready, add-ready, use-ready, remove-ready}
+use Rattle.state.proofs.Ready.{Ready, add-ready, use-ready, remove-ready}
 
 abbrev pub there : Option Entry → Bool
 there none = false

@@ -26,7 +26,8 @@ use Rattle.run.specs.Calls.{Call, add, load, store, remove, check, look,
 use Rattle.run.specs.Demand3.{stateAfter, result, eventsOf}
 use Rattle.run.proofs.Lists.{by-last, place-stays, Each, each-none, each-more, each-both}
 use Rattle.run.proofs.Walk.{by-choose, each-used}
-use Rattle.run.proofs.Ready.{rowsOf, whenDone, by-call, Ready, Timed, add-ready, use-ready, remove-ready, check-ready}
+use Rattle.state.proofs.Ready.{Ready, Timed, add-ready, use-ready, remove-ready, check-ready}
+use Rattle.run.proofs.Steps.{rowsOf, whenDone, by-call}
 use Rattle.run.proofs.Runs.{events-last}
 use Rattle.run.proofs.Always.{ceiling-one, clock-bounded}
 use Rattle.run.proofs.Honest.{below-bound}

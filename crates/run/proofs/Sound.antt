@@ -31,7 +31,8 @@ use Rattle.run.proofs.Lists.{by-last, no-place, last-place, place-stays
 use Rattle.run.proofs.Logs.{Log, noLog, noted, follow, since-now}
 use Rattle.run.proofs.Micro.{Hashed, Status, good}
 use Rattle.run.proofs.Walk.{by-choose, takenL, openL, opened-log, Right, Told, check-tells}
-use Rattle.run.proofs.Ready.{rowsOf, refusedStep, whenDone, by-call, step-done, done-number, number-done, use-ready}
+use Rattle.state.proofs.Ready.{use-ready}
+use Rattle.run.proofs.Steps.{rowsOf, refusedStep, whenDone, by-call, step-done, done-number, number-done}
 use Rattle.run.proofs.Runs.{by-start, logOf, by-step, latest-here, latest-keeps}
 use Rattle.run.proofs.Moves.{there, Fit, Vals, All, all-map, add-all, exchange-all, remove-all, accepted-all}
 use Rattle.run.proofs.Always.{not-closed, accepted-key}

@@ -20,7 +20,7 @@ use Rattle.run.specs.Demand3.{putIn, takenIn, Since, stateAfter, result,
 use Rattle.run.proofs.Lists.{by-last, place-in, no-place, place-stays, Each, each-none, each-more}
 use Rattle.run.proofs.Logs.{isAccepted, since-puts, since-takes}
 use Rattle.run.proofs.Walk.{by-choose, each-used}
-use Rattle.run.proofs.Ready.{rowsOf, whenDone, by-call, step-done}
+use Rattle.run.proofs.Steps.{rowsOf, whenDone, by-call, step-done}
 use Rattle.run.proofs.Runs.{events-append, events-last}
 use Rattle.run.proofs.Sound.{accepts-agrees, all}
 

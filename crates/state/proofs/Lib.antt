@@ -4,3 +4,4 @@ pub mod Marks
 pub mod Multiset
 pub mod Messages
 pub mod Guards
+pub mod Ready

@@ -7,7 +7,8 @@ use Rattle.state.specs.Step.{seen}
 use Rattle.state.specs.Check.{checkOf, agrees, takeBelow, acceptance, rejection}
 use Rattle.state.specs.declared.Verdict.the-variants.{Accept, Reject}
 use Rattle.multiset.specs.Tag.{tag}
-use Rattle.store.proofs.Rows.{check-ready, call-done, refused-seen}
+use Rattle.state.proofs.Ready.{check-ready, call-done}
+use Rattle.store.proofs.Rows.{refused-seen}
 use Rattle.store.proofs.check.Statement.{statement}
 use Rattle.store.proofs.check.Tie as tie
 
@@ -19,13 +20,13 @@ take-all-requires : tie.Need-take-all-requires
 take-all-requires c κs =
     let b = c .before .before in
     let x = b .before .before .before .args in
-    check-ready 2 (x .s) (x .store .now) (sym (b .check .ensures) ∙ c .before .if1 .left)
+    check-ready 2 (x .s) (x .store .now) (sym (b .check .ensures) ∙ c .before .if1 .left) .1
 
 put-all-requires : tie.Need-put-all-requires
 put-all-requires c κs =
     let d = c .before .before .before .before .before in
     let x = d .before .before .before .before .args in
-    check-ready 2 (x .s) (x .store .now) (sym (d .before .check .ensures) ∙ d .if1 .left)
+    check-ready 2 (x .s) (x .store .now) (sym (d .before .check .ensures) ∙ d .if1 .left) .1
 
 returns-2 : tie.Need-returns-2
 unfolding checkOf acceptance

@@ -2,7 +2,8 @@
 use borrow.Author.Needs.{needs}
 use mathlib.Core.Path.{sym, _∙_}
 use Rattle.state.specs.Moves.{lookOf}
-use Rattle.store.proofs.Rows.{look-ready, done-zero, done-other}
+use Rattle.refusal.proofs.Passed.{done-zero, done-other}
+use Rattle.state.proofs.Ready.{look-ready}
 use Rattle.store.proofs.look.Statement.{statement}
 use Rattle.store.proofs.look.Tie as tie
 

@@ -2,7 +2,8 @@
 use borrow.Author.Needs.{needs}
 use mathlib.Core.Path.{sym, _∙_}
 use Rattle.state.specs.Moves.{removeOf}
-use Rattle.store.proofs.Rows.{remove-ready, done-seen, refused-seen}
+use Rattle.state.proofs.Ready.{remove-ready}
+use Rattle.store.proofs.Rows.{done-seen, refused-seen}
 use Rattle.store.proofs.remove.Statement.{statement}
 use Rattle.store.proofs.remove.Tie as tie
 
@@ -10,7 +11,8 @@ removed-requires : tie.Need-removed-requires
 removed-requires c κs =
     let b = c .before .before in
     let x = b .before .before .before .args in
-    remove-ready 2 (x .s) (x .store .now) (x .a) (sym (b .remove .ensures) ∙ c .before .if1 .taken)
+    let r = remove-ready 2 (x .s) (x .store .now) (x .a) (sym (b .remove .ensures) ∙ c .before .if1 .taken) in
+    (r .size, r .below)
 
 returns : tie.Need-returns
 unfolding removeOf

@@ -2,7 +2,7 @@
 use borrow.Author.Needs.{needs}
 use mathlib.Core.Path.{sym}
 use mathlib.Core.Logic.{⊎-elim}
-use Rattle.store.proofs.Rows.{done-other}
+use Rattle.refusal.proofs.Passed.{done-other}
 use Rattle.store.proofs.refusals.row.Statement.{statement}
 use Rattle.store.proofs.refusals.row.Tie as tie
 

@@ -1,4 +1,4 @@
--- Each call by its rows: what it gives where none holds, and what it may rely on then, row by row. Assumes nothing.
+-- Each call of a run by its rows: what it gives where none of them holds, and where one does. Assumes nothing.
 use mathlib.Core.Path.{_≡_, refl, sym, ap, _∙_, subst}
 use mathlib.Core.Bool.{Bool, true, false, not, _&&_, false≢true}
 use mathlib.Core.List.{List, [], _∷_}
@@ -95,59 +95,3 @@ module _ (w : ℕ) (tag : List ℕ → Entry → List ℕ) (s : State) (m : List
 
   pub number-done : (c : Call) → step w tag s m c .seen .number ≡ 0 → first (rowsOf w s m c) ≡ 0
   number-done c = by-call (λ (r : Step). r .seen .number ≡ 0 → first (rowsOf w s m c) ≡ 0) c (λ e z. e) (λ n e z. absurd (omega arith))
-
--- ---- the rows that do not hold
-
-positive : List Row → Bool
-positive [] = true
-positive (r ∷ rs) = not (eqb (r .number) 0) && positive rs
-
-passed : (rows : List Row) → positive rows ≡ true → first rows ≡ 0 → NoneHolds rows
-unfolding positive NoneHolds
-passed [] p e = tt
-passed (r ∷ rs) p e = let q = both (not (eqb (r .number) 0)) (positive rs) p in go q (r .holds) refl (passed rs (q .1))
-  where
-    go : (not (eqb (r .number) 0) ≡ true) × (positive rs ≡ true) → (b : Bool) → r .holds ≡ b → (first rs ≡ 0 → NoneHolds rs) → NoneHolds (r ∷ rs)
-    go q true h ih = absurd (eqb-false (r .number) 0 (not-true _ (q .0)) (sym (ap (λ (b : Bool). choose b (r .number) (first rs)) h) ∙ e))
-    go q false h ih = (h, ih (sym (ap (λ (b : Bool). choose b (r .number) (first rs)) h) ∙ e))
-
--- what a call on an address may rely on, the mark of the address being u; and what one that puts may
-pub record Ready (w : ℕ) (s : State) (m : List ℕ) (a : ℕ) (u : Bool) : Type 0 where
-  pub notClosed : s .closed ≡ false
-  pub size : length m ≡ storeSize w
-  pub below : a < addresses
-  pub mark : used (s .marks) a ≡ u
-
-pub record Timed (w : ℕ) (s : State) (b : List ℕ) : Type 0 where
-  pub size : length b ≡ valueSize
-  pub time : s .clock ≢ ceiling w
-
-module _ (w : ℕ) (s : State) (m : List ℕ) where
-  pub check-ready : first (checkRows w s m) ≡ 0 → (s .closed ≡ false) × (length m ≡ storeSize w)
-  unfolding checkRows NoneHolds positive
-  check-ready e = let p = passed (checkRows w s m) refl e in (p .0, eqb-true _ _ (not-false _ (p .1 .0)))
-
-  module _ (a : ℕ) where
-    pub remove-ready : first (removeRows w s m a) ≡ 0 → Ready w s m a true
-    unfolding removeRows NoneHolds positive
-    remove-ready e =
-        let p = passed (removeRows w s m a) refl e in
-        record { notClosed = p .0; size = eqb-true _ _ (not-false _ (p .1 .0)); below = ltb-true _ _ (not-false _ (p .1 .1 .0)); mark = not-false _ (p .1 .1 .1 .0) }
-
-    -- add's rows, and load's and store's, are these with t as the test of the mark
-    put-ready : (b : List ℕ) (t u : Bool) (n : ℕ) → (t ≡ false → used (s .marks) a ≡ u)
-        → first (shutRow s ∷ storeRow w m ∷ addressRow a ∷ bufferRow b ∷ when (suc n) t ∷ clockRow w s ∷ []) ≡ 0 → Ready w s m a u × Timed w s b
-    unfolding NoneHolds positive
-    put-ready b t u n f e =
-        let p = passed (shutRow s ∷ storeRow w m ∷ addressRow a ∷ bufferRow b ∷ when (suc n) t ∷ clockRow w s ∷ []) (rw (eqb·suc-zero n)) e in (
-          record { notClosed = p .0; size = eqb-true _ _ (not-false _ (p .1 .0)); below = ltb-true _ _ (not-false _ (p .1 .1 .0)); mark = f (p .1 .1 .1 .1 .0) },
-          record { size = eqb-true _ _ (not-false _ (p .1 .1 .1 .0)); time = eqb-false _ _ (p .1 .1 .1 .1 .1 .0) },
-        )
-
-    pub add-ready : (v : List ℕ) → first (addRows w s m a v) ≡ 0 → Ready w s m a false × Timed w s v
-    unfolding addRows
-    add-ready v = put-ready v (used (s .marks) a) false 3 (λ h. h)
-
-    pub use-ready : (b : List ℕ) → first (useRows w s m a b) ≡ 0 → Ready w s m a true × Timed w s b
-    unfolding useRows
-    use-ready b = put-ready b (not (used (s .marks) a)) true 4 (not-false (used (s .marks) a))
