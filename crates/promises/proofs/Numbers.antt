@@ -1,0 +1,102 @@
+-- Every call's number is the first of its rows that holds, so refusal's theorem gives each number exactly; a refused call is the one that changes nothing.
+-- Assumes nothing.
+use mathlib.Core.Path.{_≡_, refl, sym, ap, _∙_}
+use mathlib.Core.Bool.{Bool, true, false}
+use mathlib.Core.List.{List, [], _∷_}
+use mathlib.Core.Logic.{_↔_}
+use Prim.Native.Nat.{ℕ, zero, suc}
+use native.Mathlib.Omega.{arith}
+use Rattle.refusal.specs.Refusal.{Row, first, choose, done, Given, Filled, filled, fills}
+use Rattle.refusal.proofs.Exact.{exactly}
+use Rattle.refusal.proofs.Passed.{done-zero, done-other}
+use lib.Dec.{eqb}
+use lib.ListN.{length}
+use Rattle.state.specs.Sizes.{width, addresses, valueSize}
+use Rattle.state.specs.Marks.{lowestFrom}
+use Rattle.state.specs.Cells.{valueAt}
+use Rattle.state.specs.Start.{none, startRows, startOf}
+use Rattle.state.specs.Step.{Seen, seen, Step}
+use Rattle.state.specs.Moves.{call, added, loaded, stored, removed, addOf, loadOf, storeOf, removeOf, lookOf, lowestOf, freeNumber, addRows, useRows, removeRows, lookRows, lowestRows}
+use Rattle.state.specs.Check.{checkRows, agrees, takeBelow, acceptance, rejection, checkOf}
+use Rattle.state.specs.declared.State.{State}
+use Rattle.state.specs.declared.Verdict.the-variants.{Nothing}
+use Rattle.state.specs.declared.Free.the-variants.{At, Full}
+use Rattle.state.proofs.Ready.{look-ready}
+use Rattle.state.proofs.Cells.{value-length}
+use Rattle.multiset.specs.Tag.{tag}
+use Rattle.sha256.specs.Sha256.{digestOf}
+use Rattle.hmac.specs.Hmac.{macOf}
+use Rattle.filter.proofs.Numbers.{numbers as filter-numbers}
+use Rattle.promises.specs.Numbers.{Exactly, FillsExactly, Numbers}
+
+-- a number that is the first of some rows
+rows-exactly : (rows : List Row) (k n : ℕ) → k ≡ first rows → (k ≡ n) ↔ Given n rows
+rows-exactly rows k n e = ((λ h. exactly n rows .1 (sym e ∙ h)), (λ g. e ∙ exactly n rows .0 g))
+
+call-number : (n : ℕ) (s : State) (m o : List ℕ) (x : Step) → x .seen .number ≡ 0
+    → done n x (record { seen = seen n Nothing s m o; events = [] }) .seen .number ≡ n
+call-number zero s m o x e = e
+call-number (suc n) s m o x e = refl
+
+call-unchanged : (n : ℕ) (s : State) (m o : List ℕ) (x : Step) → x .seen .number ≡ 0
+    → (done n x (record { seen = seen n Nothing s m o; events = [] }) .seen .number ≡ 0 → ⊥)
+    → done n x (record { seen = seen n Nothing s m o; events = [] }) .seen ≡ seen (done n x (record { seen = seen n Nothing s m o; events = [] }) .seen .number) Nothing s m o
+call-unchanged zero s m o x e h = absurd (h e)
+call-unchanged (suc n) s m o x e h = refl
+
+-- a call of the store, by its rows and what it gives where it is done
+call-exactly : (rows : List Row) (s : State) (m o : List ℕ) (x : Step) → x .seen .number ≡ 0 → Exactly rows (call rows s m o x .seen) s m o
+unfolding call
+call-exactly rows s m o x e = record {
+  number = λ n. rows-exactly rows _ n (call-number (first rows) s m o x e);
+  unchanged = call-unchanged (first rows) s m o x e;
+}
+
+check-number : (b : Bool) (x y : Step) → x .seen .number ≡ 0 → y .seen .number ≡ 0 → choose b x y .seen .number ≡ 0
+check-number true x y e h = e
+check-number false x y e h = h
+
+fills-exactly : (rows : List Row) (new old : List ℕ) → FillsExactly rows (fills rows new old) old
+fills-exactly rows new old = record { number = λ n. rows-exactly rows _ n refl; unchanged = λ h. done-other (first rows) new old h }
+
+-- a look that no row refuses gives 28 bytes
+look-exactly : (m : List ℕ) (a : ℕ) → (lookOf width m a ≡ []) ↔ (Given 0 (lookRows width m a) → ⊥)
+unfolding lookOf valueSize
+look-exactly m a = (there, back)
+  where
+    rows : List Row
+    rows = lookRows width m a
+
+    there : done (first rows) (valueAt width m a) [] ≡ [] → Given 0 rows → ⊥
+    there e g =
+        let z = exactly 0 rows .0 g in
+        let r = look-ready width m a z in
+        let l : length (valueAt width m a) ≡ 0 = ap length (sym (done-zero (first rows) (valueAt width m a) [] z) ∙ e) in
+        let n : length (valueAt width m a) ≡ valueSize = value-length width m a (r .1) (r .0) in
+        omega arith
+
+    back : (Given 0 rows → ⊥) → done (first rows) (valueAt width m a) [] ≡ []
+    back h = done-other (first rows) (valueAt width m a) [] (λ z. h (exactly 0 rows .1 z))
+
+-- an address where the row does not hold, and none where it does
+free-number : (b : Bool) (a : ℕ) → freeNumber (done (choose b 9 0) (At a) Full) ≡ choose b 9 0
+unfolding freeNumber
+free-number true a = refl
+free-number false a = refl
+
+pub numbers : Numbers
+unfolding startOf addOf loadOf storeOf removeOf checkOf digestOf macOf lowestOf added loaded stored removed acceptance rejection
+numbers = record {
+  start = λ n k. rows-exactly (startRows k) _ n refl;
+  start-refused = λ k h. done-other (first (startRows k)) _ none h;
+  add = λ s m a v. call-exactly (addRows width s m a v) s m [] (added width tag s m a v) refl;
+  load = λ s m a o. call-exactly (useRows width s m a o) s m o (loaded width tag s m a) refl;
+  store = λ s m a v. call-exactly (useRows width s m a v) s m [] (stored width tag s m a v) refl;
+  remove = λ s m a. call-exactly (removeRows width s m a) s m [] (removed width tag s m a) refl;
+  check = λ s m. call-exactly (checkRows width s m) s m [] (choose (agrees (takeBelow width tag s m addresses)) (acceptance width tag s m) (rejection width tag s m)) (check-number (agrees (takeBelow width tag s m addresses)) (acceptance width tag s m) (rejection width tag s m) refl refl);
+  look = look-exactly;
+  lowest-free = λ n ws. rows-exactly (lowestRows ws) _ n (free-number (eqb (lowestFrom addresses 0 ws) addresses) (lowestFrom addresses 0 ws));
+  digest = λ m out. fills-exactly _ _ out;
+  mac = λ k m out. fills-exactly _ _ out;
+  filter = filter-numbers;
+}

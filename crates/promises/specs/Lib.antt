@@ -1,0 +1,4 @@
+pub mod Examples
+pub mod Numbers
+pub mod Outcomes
+pub mod Demands

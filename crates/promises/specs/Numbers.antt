@@ -1,0 +1,45 @@
+-- 01, "Numbers given back", for each call: a number is given exactly when its row is the first that holds; and a refusal changes nothing.
+-- The rows of each call stand in the definitions that its contract cites. Assumes nothing.
+use mathlib.Core.Path.{_≡_}
+use mathlib.Core.List.{List, [], _∷_}
+use mathlib.Core.Logic.{_↔_}
+use Prim.Native.Nat.{ℕ}
+use Rattle.refusal.specs.Refusal.{Row, Given, Filled, filled}
+use Rattle.state.specs.Sizes.{width}
+use Rattle.state.specs.Start.{none, startRows, started, startOf}
+use Rattle.state.specs.Step.{Seen, seen}
+use Rattle.state.specs.Moves.{addRows, useRows, removeRows, lookRows, lowestRows, addOf, loadOf, storeOf, removeOf, lookOf, lowestOf, freeNumber}
+use Rattle.state.specs.Check.{checkRows, checkOf}
+use Rattle.state.specs.declared.State.{State}
+use Rattle.state.specs.declared.Verdict.the-variants.{Nothing}
+use Rattle.state.specs.declared.Free.the-variants.{Full}
+use Rattle.multiset.specs.Tag.{tag}
+use Rattle.sha256.specs.Sha256.{digestRows, digestOf}
+use Rattle.hmac.specs.Hmac.{macRows, macOf}
+use Rattle.filter.specs.Promises.{Numbers as FilterNumbers}
+
+-- a call of the store with these rows, where nothing is refused but by number: the number exactly; refused, the caller has what it gave
+pub record Exactly (rows : List Row) (given : Seen) (s : State) (m o : List ℕ) : Type 0 where
+  pub number : (n : ℕ) → (given .number ≡ n) ↔ Given n rows
+  pub unchanged : (given .number ≡ 0 → ⊥) → given ≡ seen (given .number) Nothing s m o
+
+-- a call that fills a lent buffer
+pub record FillsExactly (rows : List Row) (given : Filled) (old : List ℕ) : Type 0 where
+  pub number : (n : ℕ) → (given .number ≡ n) ↔ Given n rows
+  pub unchanged : (given .number ≡ 0 → ⊥) → given .out ≡ old
+
+pub record Numbers : Type 0 where
+  pub start : (n : ℕ) (k : List ℕ) → (startOf k .number ≡ n) ↔ Given n (startRows k)
+  pub start-refused : (k : List ℕ) → (startOf k .number ≡ 0 → ⊥) → startOf k .state ≡ none
+  pub add : (s : State) (m : List ℕ) (a : ℕ) (v : List ℕ) → Exactly (addRows width s m a v) (addOf width tag s m a v .seen) s m []
+  pub load : (s : State) (m : List ℕ) (a : ℕ) (o : List ℕ) → Exactly (useRows width s m a o) (loadOf width tag s m a o .seen) s m o
+  pub store : (s : State) (m : List ℕ) (a : ℕ) (v : List ℕ) → Exactly (useRows width s m a v) (storeOf width tag s m a v .seen) s m []
+  pub remove : (s : State) (m : List ℕ) (a : ℕ) → Exactly (removeRows width s m a) (removeOf width tag s m a .seen) s m []
+  pub check : (s : State) (m : List ℕ) → Exactly (checkRows width s m) (checkOf width tag s m .seen) s m []
+  -- a look gives no number: no bytes exactly where a row holds
+  pub look : (m : List ℕ) (a : ℕ) → (lookOf width m a ≡ []) ↔ (Given 0 (lookRows width m a) → ⊥)
+  pub lowest-free : (n : ℕ) (ws : List ℕ) → (freeNumber (lowestOf ws) ≡ n) ↔ Given n (lowestRows ws)
+  pub digest : (m out : List ℕ) → FillsExactly (digestRows m out) (digestOf m out) out
+  pub mac : (k m out : List ℕ) → FillsExactly (macRows k m out) (macOf k m out) out
+  -- pack and unpack
+  pub filter : FilterNumbers
