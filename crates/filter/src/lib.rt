@@ -3,13 +3,13 @@
 pub mod going;
 
 ghost use mathlib.Core.Path.{_≡_};
-ghost use mathlib.Core.Bool.{not};
+ghost use mathlib.Core.Bool.{not, _&&_};
 ghost use mathlib.Core.List.{[], _∷_};
 ghost use Prim.Native.Nat.{ℕ, _+_, _-_, _*_, _/_, _%_, _^_, _<_};
 ghost use lib.ListN.{length, take};
-ghost use lib.Dec.{eqb};
+ghost use lib.Dec.{eqb, leb};
 ghost use Rattle.octets.specs.Layout.{join, number};
-ghost use Rattle.refusal.specs.Refusal.{first, filled};
+ghost use Rattle.refusal.specs.Refusal.{when, first, filled};
 ghost use Rattle.filter.specs.Filter.{widths, familyNumber, actionNumber, familyOf, actionOf, topOf, setPast, recordRows, spareIn, recordIn, bytesOf, zeroRecord, unpacked, unpackOf, packOf};
 
 pub enum Family {
@@ -80,20 +80,41 @@ fn fault(r: FilterRecord) -> u8
     ensures { λ n. ⌜ n ≡ first (recordRows r) ⌝ }
 {
     let f = r.family;
-    if r.longest < r.length {
-        return 13;
-    }
-    if top(f) < r.longest {
-        return 13;
-    }
     let p = r.prefix;
-    if set_past(p, r.length) {
+    due(
+        unlawful(f, r.length, r.longest),
+        set_past(p, r.length),
+        r.member == 0,
+    )
+}
+
+// The order of these numbers.
+fn due(lengths: bool, past: bool, member: bool) -> u8
+    ensures { λ n. ⌜ n ≡ first (when 13 lengths ∷ when 14 past ∷ when 15 member ∷ []) ⌝ }
+{
+    if lengths {
+        return 13;
+    }
+    if past {
         return 14;
     }
-    if r.member == 0 {
+    if member {
         return 15;
     }
     0
+}
+
+// Whether a prefix length and a longest length are unlawful.
+fn unlawful(f: Family, l: u8, g: u8) -> bool
+    ensures { λ r. ⌜ r ≡ not (leb l g && leb g (topOf f)) ⌝ }
+{
+    if g < l {
+        return true;
+    }
+    if top(f) < g {
+        return true;
+    }
+    false
 }
 
 // Whether a bit past the first l is set.

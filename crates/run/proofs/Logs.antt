@@ -4,7 +4,7 @@ use mathlib.Core.Path.{_≡_, refl, sym, ap, _∙_}
 use mathlib.Core.Bool.{Bool, true, false, true≢false}
 use mathlib.Core.List.{List, [], _∷_, _++_, append-nil, append-assoc}
 use mathlib.Core.Option.{Option, none, some}
-use mathlib.Core.Logic.{_⊎_, inl, inr}
+use mathlib.Core.Logic.{_⊎_, inl, inr, ⊎-elim}
 use Prim.Native.Nat.{ℕ}
 use lib.Dec.{eqb}
 use Rattle.refusal.specs.Refusal.{choose}
@@ -75,15 +75,14 @@ unbroken-takes l (set a v ∷ es) u = unbroken-takes l es (rest-unbroken (set a 
 unbroken-takes l (dropped a ∷ es) u = unbroken-takes l es (rest-unbroken (dropped a) es u)
 unbroken-takes l (accepted ∷ es) u = absurd (u [] es refl)
 
--- nothing is written down where a period begins
-begun : (past : List Event) → (past ≡ []) ⊎ ((old : List Event) × (past ≡ old ++ (accepted ∷ []))) → follow noLog past ≡ noLog
-unfolding follow noted
-begun past (inl e) = ap (follow noLog) e
-begun past (inr (old, e)) = ap (follow noLog) e ∙ follow-append noLog old (accepted ∷ [])
-
 module _ (all period : List Event) (s : Since all period) where
+  -- nothing is written down where the period begins
+  begun : follow noLog (s .past) ≡ noLog
+  unfolding follow noted
+  begun = ⊎-elim (λ e. ap (follow noLog) e) (λ p. ap (follow noLog) (p .1) ∙ rw follow-append) (s .begins)
+
   from : follow noLog all ≡ follow noLog period
-  from = ap (follow noLog) (s .place) ∙ follow-append noLog (s .past) period ∙ ap (λ (l : Log). follow l period) (begun (s .past) (s .begins))
+  from = ap (follow noLog) (s .place) ∙ follow-append noLog (s .past) period ∙ ap (λ (l : Log). follow l period) begun
 
   pub since-puts : follow noLog all .puts ≡ putIn period
   unfolding noLog

@@ -54,6 +54,17 @@ module _ (tag : List ℕ → Entry → List ℕ) (s : State) where
   marks-fault e (inl h) = rw h
   marks-fault e (inr h) = rw (lt-ltb (s .clock) (e .stamp) h, or-true)
 
+-- the hashes are equal and no fault is marked
+agrees-tells : (t : State) → agrees t ≡ true → (t .put ≡ t .take) × (t .fault ≡ false)
+unfolding agrees
+agrees-tells t h =
+    let p = both (sameHash (t .put) (t .take)) (not (t .fault)) h in
+    (sameHash-true (t .put) (t .take) (p .0), not-true (t .fault) (p .1))
+
+equal-agrees : (t : State) → t .put ≡ t .take → t .fault ≡ false → agrees t ≡ true
+unfolding agrees
+equal-agrees t h f = rw (equal-sameHash (t .put) (t .take) h, f)
+
 -- ---- the calls
 
 module _ (w : ℕ) (tag : List ℕ → Entry → List ℕ) (s : State) (m : List ℕ) where
@@ -86,22 +97,22 @@ module _ (w : ℕ) (tag : List ℕ → Entry → List ℕ) (s : State) (m : List
   -- ---- 01, Check
 
   -- a check that is not refused accepts exactly where after its takes the hashes are equal and no fault is marked
-  pub check-accepts : first (checkRows w s m) ≡ 0 → takeBelow w tag s m addresses .put ≡ takeBelow w tag s m addresses .take → takeBelow w tag s m addresses .fault ≡ false
-      → checkOf w tag s m .seen .verdict ≡ Accept
-  unfolding checkOf call agrees acceptance rejection
-  check-accepts e h f = rw (e, equal-sameHash _ _ h, f)
-
-  pub accepts-check : first (checkRows w s m) ≡ 0 → checkOf w tag s m .seen .verdict ≡ Accept
+  pub accepts-tells : first (checkRows w s m) ≡ 0 → checkOf w tag s m .seen .verdict ≡ Accept
       → (takeBelow w tag s m addresses .put ≡ takeBelow w tag s m addresses .take) × (takeBelow w tag s m addresses .fault ≡ false)
-  unfolding checkOf call agrees acceptance rejection
-  accepts-check e v = go (agrees t) refl (sym (ap (λ (n : ℕ). done n (choose (agrees t) (acceptance w tag s m) (rejection w tag s m)) (step (seen n Nothing s m []) []) .seen .verdict) e) ∙ v)
+  unfolding checkOf call acceptance rejection
+  accepts-tells e v = go (agrees t) refl (sym (ap (λ (n : ℕ). done n (choose (agrees t) (acceptance w tag s m) (rejection w tag s m)) (step (seen n Nothing s m []) []) .seen .verdict) e) ∙ v)
     where
       t : State
       t = takeBelow w tag s m addresses
 
       go : (b : Bool) → agrees t ≡ b → choose b (acceptance w tag s m) (rejection w tag s m) .seen .verdict ≡ Accept → (t .put ≡ t .take) × (t .fault ≡ false)
-      go true h k = let p = both (sameHash (t .put) (t .take)) (not (t .fault)) h in (sameHash-true _ _ (p .0), not-true _ (p .1))
+      go true h k = agrees-tells t h
       go false h k = let y : _≡_ {A = ℕ} 0 1 = cc in absurd (omega arith)
+
+  pub equal-accepts : first (checkRows w s m) ≡ 0 → takeBelow w tag s m addresses .put ≡ takeBelow w tag s m addresses .take → takeBelow w tag s m addresses .fault ≡ false
+      → checkOf w tag s m .seen .verdict ≡ Accept
+  unfolding checkOf call acceptance rejection
+  equal-accepts e h f = rw (e, equal-agrees (takeBelow w tag s m addresses) h f)
 
   -- accepted: the take hash begins empty, and the clock is 1, also with no address in use; each put has its cell's value and stamp 1
   opened-below : (n : ℕ) → (openBelow w tag s m n .clock ≡ 1) × (openBelow w tag s m n .take ≡ emptyHash)
