@@ -1,10 +1,10 @@
 -- What holds in every run, its state closed or not: the key is the start's, a closed state stays closed and accepts nothing, and of the puts since the
 -- last accepted check no two are alike, since each has a stamp above all before it. By the calls one by one. Assumes nothing.
 use mathlib.Core.Path.{_≡_, refl, sym, ap, ap₂, _∙_, subst}
-use mathlib.Core.Bool.{Bool, true, false, false≢true}
-use mathlib.Core.List.{List, [], _∷_, _++_}
+use mathlib.Core.Bool.{true, false, false≢true}
+use mathlib.Core.List.{List, [], _++_}
 use mathlib.Core.Logic.{_≢_}
-use Prim.Native.Nat.{ℕ, zero, suc, _+_, _≤_, _<_}
+use Prim.Native.Nat.{ℕ, zero, suc, _+_, _≤_}
 use native.Mathlib.Nat.{one-le-pow, pow-succ'}
 use native.Mathlib.Omega.{arith}
 use lib.ListN.{length}
@@ -13,12 +13,11 @@ use Rattle.state.specs.Sizes.{addresses, ceiling}
 use Rattle.state.specs.Cells.{Entry, entryAt, valueAt}
 use Rattle.state.specs.Counts.{times}
 use Rattle.state.specs.Start.{fresh, none, startOf}
-use Rattle.state.specs.Step.{Event, Step, withMarks, shut, next, takeEntry, putEntry}
+use Rattle.state.specs.Step.{Step, withMarks, shut, next, takeEntry, putEntry}
 use Rattle.state.specs.Moves.{added, loaded, stored, removed}
 use Rattle.state.specs.Check.{agrees, takeBelow, acceptance, rejection}
 use Rattle.state.specs.declared.State.{State}
 use Rattle.state.specs.declared.Started.{Started}
-use Rattle.state.specs.declared.Verdict.{Verdict}
 use Rattle.state.specs.declared.Verdict.the-variants.{Accept, Nothing}
 use Rattle.state.proofs.Starts.{start-refused}
 use Rattle.run.specs.Calls.{Call, add, load, store, remove, check, look, count, lowest, Lent, lent, moves, step, after, events}
@@ -26,9 +25,9 @@ use Rattle.run.specs.Demand3.{stateAfter, result, eventsOf, Accepts}
 use Rattle.run.proofs.Lists.{by-last}
 use Rattle.run.proofs.Logs.{Log, putL, takeL, noLog, noted, follow}
 use Rattle.run.proofs.Micro.{Stamps, take-stamps, put-stamps}
-use Rattle.run.proofs.Walk.{by-choose, takenL, taken-puts, taken-log, openL, opened-log, open-clock, open-stamps, open-same}
+use Rattle.run.proofs.Walk.{by-choose, taken-puts, taken-log, opened-log, open-clock, open-stamps, open-same}
 use Rattle.state.proofs.Ready.{add-ready, use-ready, remove-ready, check-ready}
-use Rattle.run.proofs.Steps.{rowsOf, refusedStep, whenDone, by-call}
+use Rattle.run.proofs.Steps.{rowsOf, whenDone, by-call}
 use Rattle.run.proofs.Runs.{by-start, logOf, state-last, events-last, by-step}
 
 -- a call that takes or puts is refused where the state is closed

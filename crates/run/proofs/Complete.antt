@@ -3,26 +3,24 @@
 use mathlib.Core.Path.{_≡_, refl, sym, ap, _∙_, subst}
 use mathlib.Core.Bool.{Bool, true, false, false≢true, true≢false}
 use mathlib.Core.List.{List, [], _∷_, _++_, append-assoc}
-use mathlib.Core.Option.{Option, none, some}
+use mathlib.Core.Option.{none, some}
 use mathlib.Core.Logic.{_⊎_, inl, inr}
-use Prim.Native.Nat.{ℕ, zero, suc, _≤_}
+use Prim.Native.Nat.{ℕ, _≤_}
 use native.Mathlib.Omega.{arith}
 use Rattle.refusal.specs.Refusal.{first}
-use Rattle.state.specs.Marks.{used}
-use Rattle.state.specs.Cells.{Entry, entryAt}
+use Rattle.state.specs.Cells.{Entry}
 use Rattle.state.specs.Counts.{times}
 use Rattle.state.specs.Start.{fresh, startOf}
 use Rattle.state.specs.Start as start
 use Rattle.state.specs.Step.{Step}
-use Rattle.state.specs.Check.{agrees, takeBelow, acceptance}
+use Rattle.state.specs.Check.{acceptance}
 use Rattle.state.specs.declared.State.{State}
-use Rattle.state.specs.declared.Verdict.the-variants.{Accept}
 use Rattle.run.specs.Calls.{Call, add, load, store, remove, check, look, count, lowest, Lent, lent, moves, idle, after, events}
 use Rattle.run.specs.Demand3.{Latest, stateAfter, result, Done, Accepts, Moved, Unaltered, EachCheck}
 use Rattle.run.proofs.Lists.{by-last, place-stays}
 use Rattle.run.proofs.Logs.{Log, noLog, follow}
 use Rattle.run.proofs.Balance.{Balance}
-use Rattle.run.proofs.Steps.{rowsOf, refusedStep, whenDone, by-call, step-done, done-number, number-done}
+use Rattle.run.proofs.Steps.{rowsOf, whenDone, by-call, step-done, done-number, number-done}
 use Rattle.run.proofs.Runs.{by-start, logOf, by-step, latest-here, latest-keeps}
 use Rattle.run.proofs.Moves.{there}
 use Rattle.run.proofs.Always.{not-closed, stamps, clock-bounded}

@@ -14,11 +14,11 @@ use Rattle.state.specs.Check.{checkRows}
 use Rattle.state.specs.Step.{Step}
 use Rattle.state.specs.declared.Started.{Started}
 use Rattle.state.proofs.Starts.{start-done}
-use Rattle.run.specs.Calls.{Call, add, load, store, remove, check, look, count, lowest, Lent, lent, after, events}
-use Rattle.run.specs.Demand3.{Latest, Sets, stateAfter, result, eventsOf, Done, Accepts, LastSet, EachLoad, LastAccepts, Moved}
+use Rattle.run.specs.Calls.{load, check, Lent, lent, after, events}
+use Rattle.run.specs.Demand3.{Latest, stateAfter, result, eventsOf, Done, Accepts, LastSet, EachLoad, LastAccepts, Moved}
 use Rattle.run.proofs.Lists.{by-last, place-in, no-place, last-place, place-stays}
 use Rattle.run.proofs.Steps.{by-call, done-number}
-use Rattle.run.proofs.Runs.{state-last, events-last}
+use Rattle.run.proofs.Runs.{kind, sets-told, state-last, events-last}
 use Rattle.run.proofs.Complete.{complete-at}
 
 -- ---- the latest call is one
@@ -38,25 +38,11 @@ module _ (P : List Lent → Lent → Type 0) (run : List Lent) (l k : Latest P r
       go (inl (e, f, g)) = absurd (k .last e (l .later) (l .call) g (subst (λ (b : List Lent). P b (l .call)) f (l .holds)))
       go (inr (e, f, g)) = here e f g
 
-abbrev given : Call → List ℕ
-given (add a v) = v
-given (load a o) = o
-given (store a v) = v
-given (remove a) = []
-given check = []
-given (look a) = []
-given count = []
-given lowest = []
-
-sets-given : (c : Call) (a : ℕ) (v : List ℕ) → Sets c a v → given c ≡ v
-sets-given c a v (inl e) = ap given e
-sets-given c a v (inr e) = ap given e
-
 module _ (w : ℕ) (tag : List ℕ → Entry → List ℕ) (key : List ℕ) where
   -- the value last added or stored is one
   pub last-one : (run : List Lent) (a : ℕ) (v u : List ℕ) → LastSet w tag key run a v → LastSet w tag key run a u → v ≡ u
   last-one run a v u (l, h) (k, g) =
-      sym (sets-given (l .call .call) a v h) ∙ ap (λ (x : Lent). given (x .call)) (latest-one _ run l k .1) ∙ sets-given (k .call .call) a u g
+      sym (sets-told (l .call .call) a v h .value) ∙ ap (λ (x : Lent). kind (x .call) .value) (latest-one _ run l k .1) ∙ sets-told (k .call .call) a u g .value
 
   -- ---- runs in which nothing happens
 

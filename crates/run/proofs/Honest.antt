@@ -1,8 +1,8 @@
 -- Where every cell in use holds the entry that is held, no stamp is ahead of the clock, and a check's takes bring every count of takes up to that of puts: it
 -- accepts. And each call writes what it puts, so the cells hold it again. Assumes nothing.
 use mathlib.Core.Path.{_≡_, refl, sym, ap, _∙_, subst}
-use mathlib.Core.Bool.{Bool, true, false, not, _&&_, false≢true}
-use mathlib.Core.List.{List, [], _∷_, _++_}
+use mathlib.Core.Bool.{Bool, true, false, false≢true}
+use mathlib.Core.List.{List}
 use mathlib.Core.Option.{Option, none, some}
 use mathlib.Core.Logic.{_⊎_, inl, inr, _≢_}
 use Prim.Native.Nat.{ℕ, zero, suc, _+_, _^_, _≤_, _<_}
@@ -14,12 +14,11 @@ use borrow.Author.Tests.{eqb-true, eqb-false, ltb-true, ltb-false, le-ltb}
 use Rattle.refusal.specs.Refusal.{first, choose}
 use Rattle.state.specs.Sizes.{addresses, valueSize, storeSize, ceiling}
 use Rattle.state.specs.Marks.{used}
-use Rattle.state.specs.Cells.{Entry, entry, valueAt, entryAt, writeCell, writeEntry}
-use Rattle.state.specs.Multiset.{sameHash}
-use Rattle.state.specs.Counts.{sameEntry, bit, times}
-use Rattle.state.specs.Step.{Event, took, put, Step, withMarks, next, takeEntry, putEntry}
+use Rattle.state.specs.Cells.{Entry, valueAt, entryAt, writeCell, writeEntry}
+use Rattle.state.specs.Counts.{bit, times}
+use Rattle.state.specs.Step.{put, Step, withMarks, next, takeEntry, putEntry}
 use Rattle.state.specs.Moves.{added, loaded, stored, removed}
-use Rattle.state.specs.Check.{opened, opening, putBelow, agrees, takeBelow, openBelow, acceptance, rejection}
+use Rattle.state.specs.Check.{opening, putBelow, agrees, takeBelow, openBelow, acceptance}
 use Rattle.state.specs.declared.State.{State}
 use Rattle.state.proofs.Cells.{value-length, write-length, entry-other, entry-written}
 use Rattle.state.proofs.Marks.{used-below}

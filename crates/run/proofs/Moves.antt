@@ -1,28 +1,27 @@
 -- What each call that is done keeps: where every take of the period was right, what is held at an address has the value last set there. Assumes nothing.
 use mathlib.Core.Path.{_≡_, refl, sym, ap, _∙_}
-use mathlib.Core.Bool.{Bool, true, false, not, _&&_, _||_, false≢true, true≢false}
-use mathlib.Core.List.{List, [], _∷_, _++_}
+use mathlib.Core.Bool.{Bool, true, false, not, _&&_, _||_, false≢true}
+use mathlib.Core.List.{List}
 use mathlib.Core.Option.{Option, none, some}
 use mathlib.Core.Logic.{_⊎_, inl, inr}
-use Prim.Native.Nat.{ℕ, _+_, _<_}
-use native.Mathlib.Omega.{arith}
+use Prim.Native.Nat.{ℕ}
 use lib.Dec.{eqb, ltb}
 use lib.ListN.{length}
-use borrow.Author.Tests.{eqb-true, eqb-false, ltb-true, ltb-false}
+use borrow.Author.Tests.{eqb-true, ltb-true, ltb-false}
 use Rattle.refusal.specs.Refusal.{first, choose}
 use Rattle.state.specs.Sizes.{addresses}
 use Rattle.state.specs.Marks.{used, marked, unmarked}
 use Rattle.state.specs.Cells.{Entry, valueAt, entryAt}
-use Rattle.state.specs.Step.{Event, took, put, accepted, withMarks, next, takeEntry, putEntry}
-use Rattle.state.specs.Moves.{addRows, useRows, removeRows, added, loaded, stored, removed}
-use Rattle.state.specs.Check.{opening, agrees, takeBelow, openBelow, acceptance, takes, puts}
+use Rattle.state.specs.Step.{put, withMarks, next, takeEntry, putEntry}
+use Rattle.state.specs.Moves.{addRows, removeRows, added, removed}
+use Rattle.state.specs.Check.{opening, agrees, takeBelow, openBelow}
 use Rattle.state.specs.declared.State.{State}
 use Rattle.state.proofs.Marks.{used-marked, used-unmarked, length-marked, length-unmarked, used-below}
-use Rattle.run.proofs.Logs.{Log, upd, putL, takeL, noLog, noted, follow, follow-append}
+use Rattle.run.proofs.Logs.{Log, upd, putL, takeL, noted, follow}
 use Rattle.run.proofs.Balance.{upd-same, upd-other, upd-here}
 use Rattle.run.proofs.Micro.{Hashed, Status, faulty, bad, good, status-map, take-hashed, put-hashed, take-status, put-status}
-use Rattle.run.proofs.Walk.{takenL, openL, Right, Told, check-tells, open-above, open-held, open-balance, open-hashed, open-same}
-use Rattle.state.proofs.Ready.{Ready, add-ready, use-ready, remove-ready}
+use Rattle.run.proofs.Walk.{openL, Right, Told, check-tells, open-above, open-held, open-balance, open-hashed, open-same}
+use Rattle.state.proofs.Ready.{Ready, add-ready, remove-ready}
 
 abbrev pub there : Option Entry → Bool
 there none = false

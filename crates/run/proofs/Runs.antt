@@ -1,5 +1,5 @@
 -- A run with one call more: its state, its events and its latest calls, by the last place. Assumes nothing.
-use mathlib.Core.Path.{_≡_, refl, sym, ap, ap₂, _∙_, subst}
+use mathlib.Core.Path.{_≡_, refl, sym, ap, _∙_, subst}
 use mathlib.Core.Bool.{Bool, true, false}
 use mathlib.Core.List.{List, [], _∷_, _++_, append-nil, append-assoc}
 use mathlib.Core.Logic.{_⊎_, inl, inr}
@@ -13,10 +13,40 @@ use Rattle.state.specs.Step.{Event}
 use Rattle.state.specs.declared.State.{State}
 use Rattle.state.specs.declared.Started.{Started}
 use Rattle.state.proofs.Starts.{start-done, start-refused}
-use Rattle.run.specs.Calls.{Lent, step, after, events}
-use Rattle.run.specs.Demand3.{Latest, stateAfter, result, eventsOf}
+use Rattle.run.specs.Calls.{Call, add, load, store, remove, check, look, count, lowest, Lent, step, after, events}
+use Rattle.run.specs.Demand3.{Latest, Sets, stateAfter, result, eventsOf}
 use Rattle.run.proofs.Lists.{no-place, last-place, place-stays}
 use Rattle.run.proofs.Logs.{Log, noLog, follow, follow-append}
+
+-- what a call's arguments say: whether it sets a value, whether it loads one, and the address and the value or buffer that it is given
+pub record Kind : Type 0 where
+  pub sets : Bool
+  pub loads : Bool
+  pub address : ℕ
+  pub value : List ℕ
+
+abbrev of : Bool → Bool → ℕ → List ℕ → Kind
+of s l a v = record { sets = s; loads = l; address = a; value = v }
+
+abbrev pub kind : Call → Kind
+kind (add a v) = of true false a v
+kind (load a o) = of false true a o
+kind (store a v) = of true false a v
+kind (remove a) = of false false a []
+kind check = of false false 0 []
+kind (look a) = of false false a []
+kind count = of false false 0 []
+kind lowest = of false false 0 []
+
+-- what a call that sets v at a says
+pub record Setting (k : Kind) (a : ℕ) (v : List ℕ) : Type 0 where
+  pub sets : k .sets ≡ true
+  pub address : k .address ≡ a
+  pub value : k .value ≡ v
+
+pub sets-told : (c : Call) (a : ℕ) (v : List ℕ) → Sets c a v → Setting (kind c) a v
+sets-told c a v (inl e) = subst (λ (d : Call). Setting (kind d) a v) (sym e) (record { sets = refl; address = refl; value = refl })
+sets-told c a v (inr e) = subst (λ (d : Call). Setting (kind d) a v) (sym e) (record { sets = refl; address = refl; value = refl })
 
 -- a start by its one row
 pub by-start : (key : List ℕ) (P : State → Type 0) → (length key ≡ 32 → P (fresh key false)) → ((length key ≡ 32 → ⊥) → P none) → P (startOf key .state)

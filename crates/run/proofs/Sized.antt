@@ -1,24 +1,23 @@
 -- Every entry that a run puts fits the cells, and where the lent stores are bytes every entry that it takes fits the message: by the rows of the calls. So
 -- two entries of a run with one message are one entry. Assumes nothing.
-use mathlib.Core.Path.{_≡_, refl, sym, ap, _∙_, subst}
+use mathlib.Core.Path.{_≡_, refl, sym, subst}
 use mathlib.Core.Bool.{Bool, true, false}
 use mathlib.Core.List.{List, [], _∷_, _++_}
 use mathlib.Core.Logic.{_⊎_, inl, inr, _≢_}
-use Prim.Native.Nat.{ℕ, zero, suc, _+_, _*_, _^_, _≤_, _<_}
+use Prim.Native.Nat.{ℕ, _+_, _*_, _≤_, _<_}
 use native.Mathlib.Omega.{arith}
 use lib.Dec.{ltb}
 use lib.ListN.{length, getD, take, drop, length-take, length-drop, List·getD-eq-default}
 use lib.Seq.{length-take-le, getD-take, getD-drop}
 use borrow.Author.Tests.{ltb-true, ltb-false}
-use Rattle.refusal.specs.Refusal.{first, choose}
+use Rattle.refusal.specs.Refusal.{first}
 use Rattle.octets.proofs.Layouts.{fit-bytes, number-below, pow-bytes}
 use Rattle.state.specs.Sizes.{addresses, valueSize, cellSize, storeSize, ceiling}
-use Rattle.state.specs.Marks.{used}
 use Rattle.state.specs.Cells.{Entry, valueAt, stampAt, entryAt}
 use Rattle.state.specs.Multiset.{message}
 use Rattle.state.specs.Step.{Event, took, put, answered, set, dropped, accepted, Step, next, takeEntry}
 use Rattle.state.specs.Moves.{added, loaded, stored, removed}
-use Rattle.state.specs.Check.{inUse, opening, agrees, takes, puts, takeBelow, acceptance, rejection}
+use Rattle.state.specs.Check.{opening, agrees, takes, puts, takeBelow, acceptance, rejection}
 use Rattle.state.specs.declared.State.{State}
 use Rattle.state.proofs.Cells.{cell-within, value-length}
 use Rattle.state.proofs.Messages.{Sized, message-injective}
@@ -26,7 +25,7 @@ use Rattle.run.specs.Calls.{Call, add, load, store, remove, check, look,
 use Rattle.run.specs.Demand3.{stateAfter, result, eventsOf}
 use Rattle.run.proofs.Lists.{by-last, place-stays, Each, each-none, each-more, each-both}
 use Rattle.run.proofs.Walk.{by-choose, each-used}
-use Rattle.state.proofs.Ready.{Ready, Timed, add-ready, use-ready, remove-ready, check-ready}
+use Rattle.state.proofs.Ready.{Ready, add-ready, use-ready, remove-ready, check-ready}
 use Rattle.run.proofs.Steps.{rowsOf, whenDone, by-call}
 use Rattle.run.proofs.Runs.{events-last}
 use Rattle.run.proofs.Always.{ceiling-one, clock-bounded}

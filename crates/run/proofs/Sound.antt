@@ -2,39 +2,36 @@
 -- and takes differ, or every take was right and every load gave the value last set. An accepted check rules out the fault, and makes of the witness a
 -- collision. Assumes nothing.
 use mathlib.Core.Path.{_≡_, refl, sym, ap, _∙_, subst}
-use mathlib.Core.Bool.{Bool, true, false, false≢true, true≢false}
-use mathlib.Core.List.{List, [], _∷_, _++_, append-assoc}
+use mathlib.Core.Bool.{true, false, false≢true, true≢false}
+use mathlib.Core.List.{List, [], _∷_, _++_}
 use mathlib.Core.Logic.{_⊎_, inl, inr}
-use Prim.Native.Nat.{ℕ, zero, suc}
+use Prim.Native.Nat.{ℕ}
 use native.Mathlib.Omega.{arith}
 use lib.Dec.{eqb}
-use lib.ListN.{length, replicate}
-use borrow.Author.Tests.{eqb-true, eqb-false, eq-eqb}
+use borrow.Author.Tests.{eqb-false}
 use Rattle.refusal.specs.Refusal.{first}
 use Rattle.state.specs.Sizes.{addresses}
-use Rattle.state.specs.Marks.{used}
-use Rattle.state.specs.Cells.{Entry, entryAt, valueAt}
+use Rattle.state.specs.Cells.{Entry, valueAt}
 use Rattle.state.specs.Multiset.{hash}
 use Rattle.state.specs.Counts.{times}
 use Rattle.state.specs.Start.{fresh, none, startOf}
-use Rattle.state.specs.Step.{Event, accepted, Step, shut}
-use Rattle.state.specs.Moves.{added, loaded, stored, removed}
+use Rattle.state.specs.Step.{Event, Step, shut}
+use Rattle.state.specs.Moves.{added, loaded, stored}
 use Rattle.state.specs.Check.{agrees, takes, puts, takeBelow, openBelow, acceptance, rejection}
 use Rattle.state.specs.declared.State.{State}
-use Rattle.state.specs.declared.Verdict.{Verdict}
 use Rattle.state.specs.declared.Verdict.the-variants.{Accept, Reject, Nothing}
 use Rattle.state.proofs.Marks.{fresh-unused}
 use Rattle.state.proofs.Multiset.{hash-none}
 use Rattle.run.specs.Calls.{Call, add, load, store, remove, check, look, count, lowest, Lent, lent, moves, step, after, events}
-use Rattle.run.specs.Demand3.{NoTwoAlike, Differ, putIn, takenIn, Since, Latest, Sets, stateAfter, result, eventsOf, Done, Accepts, SetAt, LastSet, EachLoad, Collision, LastAccepts}
+use Rattle.run.specs.Demand3.{Differ, putIn, takenIn, Since, Sets, stateAfter, result, eventsOf, Done, Accepts, SetAt, LastSet, EachLoad, Collision, LastAccepts}
 use Rattle.run.proofs.Lists.{by-last, no-place, last-place, place-stays}
 use Rattle.run.proofs.Logs.{Log, noLog, noted, follow, since-now}
-use Rattle.run.proofs.Micro.{Hashed, Status, good}
-use Rattle.run.proofs.Walk.{by-choose, takenL, openL, opened-log, Right, Told, check-tells}
+use Rattle.run.proofs.Micro.{Status, good}
+use Rattle.run.proofs.Walk.{by-choose, takenL, opened-log, Right, Told, check-tells}
 use Rattle.state.proofs.Ready.{use-ready}
-use Rattle.run.proofs.Steps.{rowsOf, refusedStep, whenDone, by-call, step-done, done-number, number-done}
-use Rattle.run.proofs.Runs.{by-start, logOf, by-step, latest-here, latest-keeps}
-use Rattle.run.proofs.Moves.{there, Fit, Vals, All, all-map, add-all, exchange-all, remove-all, accepted-all}
+use Rattle.run.proofs.Steps.{rowsOf, whenDone, by-call, step-done, done-number, number-done}
+use Rattle.run.proofs.Runs.{kind, sets-told, by-start, logOf, by-step, latest-here, latest-keeps}
+use Rattle.run.proofs.Moves.{there, Vals, All, all-map, add-all, exchange-all, remove-all, accepted-all}
 use Rattle.run.proofs.Always.{not-closed, accepted-key}
 use Rattle.run.proofs.Alike.{period-puts, period-takes, alike-check}
 
@@ -52,41 +49,6 @@ accepts-agrees w tag s m =
 
     silent : Nothing ≡ Accept → ⊥
     silent v = let y : _≡_ {A = ℕ} 0 1 = cc in omega arith
-
--- whether a call sets a value, and where; whether it is a load, and where
-abbrev setting : Call → Bool
-setting (add a v) = true
-setting (load a o) = false
-setting (store a v) = true
-setting (remove a) = false
-setting check = false
-setting (look a) = false
-setting count = false
-setting lowest = false
-
-abbrev loading : Call → Bool
-loading (add a v) = false
-loading (load a o) = true
-loading (store a v) = false
-loading (remove a) = false
-loading check = false
-loading (look a) = false
-loading count = false
-loading lowest = false
-
-abbrev where′ : Call → ℕ
-where′ (add a v) = a
-where′ (load a o) = a
-where′ (store a v) = a
-where′ (remove a) = a
-where′ check = 0
-where′ (look a) = a
-where′ count = 0
-where′ lowest = 0
-
-sets-told : (c : Call) (a : ℕ) (v : List ℕ) → Sets c a v → (setting c ≡ true) × (where′ c ≡ a)
-sets-told c a v (inl e) = (ap setting e, ap where′ e)
-sets-told c a v (inr e) = (ap setting e, ap where′ e)
 
 module _ (w : ℕ) (tag : List ℕ → Entry → List ℕ) (key : List ℕ) where
   -- ---- a run with one call more
@@ -169,17 +131,17 @@ module _ (w : ℕ) (tag : List ℕ → Entry → List ℕ) (key : List ℕ) wher
 
   module _ (run : List Lent) (m : List ℕ) where
     -- a call leaves what was set elsewhere
-    elsewhere : (c : Call) (b : ℕ) (u : List ℕ) → eqb b (where′ c) ≡ false → LastSet w tag key run b u → LastSet w tag key (run ++ (lent c m ∷ [])) b u
-    elsewhere c b u n = set-keeps run (lent c m) b u (λ h. eqb-false b (where′ c) n (sym (sets-told c b (h .1) (h .2) .1)))
+    elsewhere : (c : Call) (b : ℕ) (u : List ℕ) → eqb b (kind c .address) ≡ false → LastSet w tag key run b u → LastSet w tag key (run ++ (lent c m ∷ [])) b u
+    elsewhere c b u n = set-keeps run (lent c m) b u (λ h. eqb-false b (kind c .address) n (sym (sets-told c b (h .1) (h .2) .address)))
 
     -- one that sets nothing leaves all that was set, and one that is no load says nothing of loads
-    sets-not : (c : Call) → setting c ≡ false → (a : ℕ) (v : List ℕ) → LastSet w tag key run a v → LastSet w tag key (run ++ (lent c m ∷ [])) a v
-    sets-not c n a v = set-keeps run (lent c m) a v (λ h. false≢true (sym n ∙ sets-told c a (h .1) (h .2) .0))
+    sets-not : (c : Call) → kind c .sets ≡ false → (a : ℕ) (v : List ℕ) → LastSet w tag key run a v → LastSet w tag key (run ++ (lent c m ∷ [])) a v
+    sets-not c n a v = set-keeps run (lent c m) a v (λ h. false≢true (sym n ∙ sets-told c a (h .1) (h .2) .sets))
 
-    loads-not : (c : Call) → loading c ≡ false → EachLoad w tag key run → EachLoad w tag key (run ++ (lent c m ∷ []))
-    loads-not c n = loads-more run (lent c m) (λ a o k e d. absurd (true≢false (ap (λ (y : Lent). loading (y .call)) e ∙ n)))
+    loads-not : (c : Call) → kind c .loads ≡ false → EachLoad w tag key run → EachLoad w tag key (run ++ (lent c m ∷ []))
+    loads-not c n = loads-more run (lent c m) (λ a o k e d. absurd (true≢false (ap (λ (y : Lent). kind (y .call) .loads) e ∙ n)))
 
-    quiet-all : (c : Call) → setting c ≡ false → loading c ≡ false → (t : State) (k : Log) (D : Type 0) → (D → Collision w tag key (run ++ (lent c m ∷ [])))
+    quiet-all : (c : Call) → kind c .sets ≡ false → kind c .loads ≡ false → (t : State) (k : Log) (D : Type 0) → (D → Collision w tag key (run ++ (lent c m ∷ [])))
         → All tag t k (LastSet w tag key run) D (EachLoad w tag key run) → Whole (run ++ (lent c m ∷ [])) t k
     quiet-all c n k t l D f = all-map (sets-not c n) f (loads-not c k)
 
@@ -221,7 +183,7 @@ module _ (w : ℕ) (tag : List ℕ → Entry → List ℕ) (key : List ℕ) wher
 
           answer : LastSet w tag key run a (valueAt w m a) → (c : ℕ) (o n : List ℕ) → lent (load c o) n ≡ lent (load a b) m → Done w tag key run (lent (load a b) m) → LastSet w tag key run c (result w tag key run (lent (load a b) m) .seen .out)
           answer k c o n q d =
-              subst (λ (z : ℕ). LastSet w tag key run z (result w tag key run (lent (load a b) m) .seen .out)) (sym (ap (λ (y : Lent). where′ (y .call)) q)) (subst (LastSet w tag key run a) (sym out) k)
+              subst (λ (z : ℕ). LastSet w tag key run z (result w tag key run (lent (load a b) m) .seen .out)) (sym (ap (λ (y : Lent). kind (y .call) .address) q)) (subst (LastSet w tag key run a) (sym out) k)
 
       check-more : first (rowsOf w s m check) ≡ 0 → AllAt (run ++ (lent check m ∷ [])) (whenDone w tag s m check .seen .state) (follow l (whenDone w tag s m check .events))
       unfolding acceptance rejection shut

@@ -1,23 +1,16 @@
 -- Each call of a run by its rows: what it gives where none of them holds, and where one does. Assumes nothing.
 use mathlib.Core.Path.{_≡_, refl, sym, ap, _∙_, subst}
-use mathlib.Core.Bool.{Bool, true, false, not, _&&_, false≢true}
-use mathlib.Core.List.{List, [], _∷_}
-use mathlib.Core.Logic.{_≢_}
-use Prim.Native.Nat.{ℕ, zero, suc, _<_}
+use mathlib.Core.List.{List, []}
+use Prim.Native.Nat.{ℕ, zero, suc}
 use native.Mathlib.Omega.{arith}
-use lib.Dec.{eqb, ltb, eqb·suc-zero}
-use lib.ListN.{length}
-use borrow.Author.Tests.{eqb-true, eqb-false, ltb-true, not-true, not-false}
-use Rattle.refusal.specs.Refusal.{Row, when, first, choose, done, NoneHolds}
-use Rattle.state.specs.Sizes.{addresses, valueSize, storeSize, ceiling}
-use Rattle.state.specs.Marks.{used}
+use Rattle.refusal.specs.Refusal.{Row, first, choose, done}
+use Rattle.state.specs.Sizes.{addresses}
 use Rattle.state.specs.Cells.{Entry}
-use Rattle.state.specs.Step.{Event, seen, Step}
-use Rattle.state.specs.Moves.{shutRow, storeRow, addressRow, bufferRow, clockRow, addRows, useRows, removeRows, call, added, addOf, loaded, loadOf, stored, storeOf, removed, removeOf}
+use Rattle.state.specs.Step.{seen, Step}
+use Rattle.state.specs.Moves.{addRows, useRows, removeRows, call, added, addOf, loaded, loadOf, stored, storeOf, removed, removeOf}
 use Rattle.state.specs.Check.{checkRows, agrees, takeBelow, acceptance, rejection, checkOf}
 use Rattle.state.specs.declared.State.{State}
 use Rattle.state.specs.declared.Verdict.the-variants.{Nothing}
-use Rattle.state.proofs.Marks.{both}
 use Rattle.run.specs.Calls.{Call, add, load, store, remove, check, look, count, lowest, idle, step}
 use Rattle.run.proofs.Walk.{by-choose}
 

@@ -1,26 +1,25 @@
 -- What the events of a run have to do with what its caller sees: the state's hashes are those of the entries put and taken, and the accepted events are the
 -- checks that accept, with their takes before them. Assumes nothing.
-use mathlib.Core.Path.{_≡_, refl, sym, ap, _∙_, subst}
-use mathlib.Core.Bool.{Bool, true, false, true≢false}
+use mathlib.Core.Path.{_≡_, refl, sym, ap, _∙_}
+use mathlib.Core.Bool.{false, true≢false}
 use mathlib.Core.List.{List, [], _∷_, _++_, append-nil, append-assoc, tail-eq-of-cons-eq}
 use mathlib.Core.Logic.{_⊎_, inl, inr}
 use Prim.Native.Nat.{ℕ}
-use Rattle.refusal.specs.Refusal.{first}
 use Rattle.state.specs.Sizes.{addresses}
-use Rattle.state.specs.Cells.{Entry, valueAt, entryAt}
+use Rattle.state.specs.Cells.{Entry, entryAt}
 use Rattle.state.specs.Multiset.{hash}
 use Rattle.state.specs.Start.{startOf}
 use Rattle.state.specs.Step.{Event, took, put, accepted, Step}
 use Rattle.state.specs.Moves.{added, loaded, stored, removed}
-use Rattle.state.specs.Check.{inUse, opening, agrees, takes, puts, takeBelow, acceptance, rejection}
+use Rattle.state.specs.Check.{opening, agrees, takes, puts, takeBelow, acceptance, rejection}
 use Rattle.state.specs.declared.State.{State}
 use Rattle.state.specs.declared.Verdict.the-variants.{Accept}
-use Rattle.run.specs.Calls.{Call, add, load, store, remove, check, look, count, lowest, Lent, lent, step, after, events}
+use Rattle.run.specs.Calls.{Call, add, load, store, remove, check, look, count, lowest, Lent, lent, step, events}
 use Rattle.run.specs.Demand3.{putIn, takenIn, Since, stateAfter, result, eventsOf, Accepts}
 use Rattle.run.proofs.Lists.{by-last, place-in, no-place, place-stays, Each, each-none, each-more}
 use Rattle.run.proofs.Logs.{isAccepted, since-puts, since-takes}
 use Rattle.run.proofs.Walk.{by-choose, each-used}
-use Rattle.run.proofs.Steps.{rowsOf, whenDone, by-call, step-done}
+use Rattle.run.proofs.Steps.{whenDone, by-call, step-done}
 use Rattle.run.proofs.Runs.{events-append, events-last}
 use Rattle.run.proofs.Sound.{accepts-agrees, all}
 

@@ -24,7 +24,7 @@ use Rattle.run.specs.Demand3.{Differ}
 use Rattle.run.proofs.Lists.{Each, each-none, each-more, each-both}
 use Rattle.run.proofs.Logs.{Log, upd, putL, takeL, noLog, noted, follow, follow-append}
 use Rattle.run.proofs.Balance.{upd-same, upd-other, heldTimes, Balance, put-balance}
-use Rattle.run.proofs.Micro.{Stamps, Hashed, Status, faulty, bad, good, status-map, take-hashed, put-hashed, take-stamps, take-status}
+use Rattle.run.proofs.Micro.{Stamps, Hashed, Status, faulty, bad, good, status-map, take-hashed, put-hashed, take-status}
 
 pub by-choose : {A : Type 0} (P : A → Type 0) (b : Bool) {x y : A} → (b ≡ true → P x) → (b ≡ false → P y) → P (choose b x y)
 by-choose P true p q = p refl

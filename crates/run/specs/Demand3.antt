@@ -8,11 +8,13 @@
 -- in its period are different multisets with equal hashes. The period of an accepted check is all that was done since the accepted check before it,
 -- or since the start: from the puts of that check on, to the takes of this one.
 --
--- Second half. If the cells in use reach each call as they were left, each check that is not refused accepts.
+-- Second half. If the cells in use reach each call as they were left, each check that is not refused accepts. All other bytes may be any at every call,
+-- and a call that is refused, as one that is lent a store of another size, does no harm.
 --
--- It is stated by places: `run ≡ before ++ (x ∷ later)` says that the call x stands in the run after the calls `before`. Assumes nothing.
+-- It is stated by places: `run ≡ before ++ (x ∷ later)` says that the call x stands in the run after the calls `before`. Of the tag nothing is asked.
+-- Assumes nothing.
 use mathlib.Core.Path.{_≡_}
-use mathlib.Core.Bool.{Bool, true}
+use mathlib.Core.Bool.{true}
 use mathlib.Core.List.{List, [], _∷_, _++_}
 use mathlib.Core.Logic.{_⊎_, _≢_}
 use Prim.Native.Nat.{ℕ, _≤_}
@@ -59,15 +61,17 @@ takenIn (set a v ∷ es) = takenIn es
 takenIn (dropped a ∷ es) = takenIn es
 takenIn (accepted ∷ es) = takenIn es
 
--- `period` is what was done since the last accepted check, or since the start: before it is nothing or an accepted check, and in it is none
+-- of all that was done, `period` is what was done since the last accepted check, or since the start: what stands before it is nothing or ends with an
+-- accepted check, and in it stands none. An accepted check's takes come before the event `accepted`, and its puts after it (01, Check)
 pub record Since (all period : List Event) : Type 0 where
   pub past : List Event
   pub place : all ≡ past ++ period
   pub begins : (past ≡ []) ⊎ ((old : List Event) × (past ≡ old ++ (accepted ∷ [])))
   pub unbroken : (p q : List Event) → period ≡ p ++ (accepted ∷ q) → ⊥
 
--- ---- the latest call of a run of which P holds; P before x: of the call x that stands after the calls before
+-- ---- calls
 
+-- the latest call of a run of which P holds; P before x is said of a call x that stands after the calls `before`
 pub record Latest (P : List Lent → Lent → Type 0) (run : List Lent) : Type 0 where
   pub before : List Lent
   pub call : Lent
@@ -101,7 +105,7 @@ module _ (w : ℕ) (tag : List ℕ → Entry → List ℕ) (key : List ℕ) wher
 
   -- ---- first half
 
-  -- some value is added or stored at a; and v is the value last added or stored there, by the arguments of the latest such call
+  -- a call that adds or stores at a, done; and v is the value last added or stored at a: the argument of the latest such call
   abbrev pub SetAt : ℕ → List Lent → Lent → Type 0
   SetAt a before x = Done before x × (v : List ℕ) × Sets (x .call) a v
 
@@ -114,7 +118,7 @@ module _ (w : ℕ) (tag : List ℕ → Entry → List ℕ) (key : List ℕ) wher
       (before later : List Lent) (a : ℕ) (o m : List ℕ) → run ≡ before ++ (lent (load a o) m ∷ later)
       → Done before (lent (load a o) m) → LastSet before a (result before (lent (load a o) m) .seen .out)
 
-  -- for some check at its place, which accepts: its period is what was done since the accepted check before it, or since the start, its own takes included
+  -- for some check at its place, which accepts: what was put and taken in its period, its own takes included
   pub record Collision (run : List Lent) : Type 0 where
     pub before : List Lent
     pub later : List Lent

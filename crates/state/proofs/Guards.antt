@@ -1,7 +1,7 @@
 -- What each call does to the clock, to the fault mark and to the hashes, one short law for each sentence of the moves: by computation, or address by
 -- address. Assumes nothing.
 use mathlib.Core.Path.{_≡_, refl, sym, ap, _∙_}
-use mathlib.Core.Bool.{Bool, true, false, not, _&&_, _||_, false≢true, or-true}
+use mathlib.Core.Bool.{Bool, true, false, not, _||_, or-true}
 use mathlib.Core.List.{List, [], _∷_, _++_, append-assoc}
 use mathlib.Core.Logic.{_⊎_, inl, inr}
 use Prim.Native.Nat.{ℕ, zero, suc, _+_, _<_}
@@ -17,8 +17,7 @@ use Rattle.state.specs.Step.{Event, took, put, seen, step, withMarks, sh
 use Rattle.state.specs.Moves.{call, added, loaded, stored, removed}
 use Rattle.state.specs.Check.{checkRows, inUse, opened, opening, agrees, takes, puts, takeBelow, openBelow, acceptance, rejection, checkOf}
 use Rattle.state.specs.declared.State.{State}
-use Rattle.state.specs.declared.Verdict.{Verdict}
-use Rattle.state.specs.declared.Verdict.the-variants.{Accept, Reject, Nothing}
+use Rattle.state.specs.declared.Verdict.the-variants.{Accept, Nothing}
 use Rattle.state.proofs.Marks.{both}
 use Rattle.state.proofs.Multiset.{sameHash-true, equal-sameHash}
 

@@ -1,6 +1,6 @@
 -- The message of an entry is one to one: each part has its own length, and bytes tell a number below their bound. Assumes nothing.
 use mathlib.Core.Path.{_≡_, sym, ap, _∙_}
-use mathlib.Core.List.{List, _∷_, _++_, tail-eq-of-cons-eq}
+use mathlib.Core.List.{List, _++_, tail-eq-of-cons-eq}
 use Prim.Native.Nat.{ℕ, _^_, _<_}
 use lib.ListN.{length, take, drop}
 use lib.Seq.{take-at, drop-at}
