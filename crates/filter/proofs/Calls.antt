@@ -5,7 +5,7 @@ use Prim.Native.Nat.{ℕ, zero, suc}
 use lib.ListN.{length}
 use borrow.Author.Tests.{eq-eqb, ne-eqb}
 use Rattle.refusal.specs.Refusal.{first, done, filled}
-use Rattle.filter.specs.Filter.{recordRows, packRows, unpackRows, packOf, unpacked, unpackOf, bytesOf, recordIn, spareIn, zeroRecord}
+use Rattle.filter.specs.Filter.{filterRows, packRows, unpackRows, packOf, unpacked, unpackOf, bytesOf, filterIn, spareIn, zeroFilter}
 use Rattle.filter.specs.declared.FilterRecord.{FilterRecord}
 
 pub done-refused : {A : Type 0} (n : ℕ) (x y : A) → (n ≡ 0 → ⊥) → done n x y ≡ y
@@ -16,27 +16,27 @@ pub pack-size : (r : FilterRecord) (out : List ℕ) → (length out ≡ 28 → �
 unfolding packOf packRows
 pack-size r out h = simp (ne-eqb _ _ h)
 
-pub pack-refused : (r : FilterRecord) (out : List ℕ) (n : ℕ) → length out ≡ 28 → n ≡ first (recordRows r) → (n ≡ 0 → ⊥) → filled n out ≡ packOf r out
+pub pack-refused : (r : FilterRecord) (out : List ℕ) (n : ℕ) → length out ≡ 28 → n ≡ first (filterRows r) → (n ≡ 0 → ⊥) → filled n out ≡ packOf r out
 unfolding packOf packRows
 pack-refused r out n l e z = simp (eq-eqb _ _ l, sym e, done-refused n (bytesOf r) out z)
 
-pub pack-done : (r : FilterRecord) (out : List ℕ) → length out ≡ 28 → first (recordRows r) ≡ 0 → filled 0 (bytesOf r) ≡ packOf r out
+pub pack-done : (r : FilterRecord) (out : List ℕ) → length out ≡ 28 → first (filterRows r) ≡ 0 → filled 0 (bytesOf r) ≡ packOf r out
 unfolding packOf packRows
 pack-done r out l e = simp (eq-eqb _ _ l, e)
 
-pub unpack-size : (bs : List ℕ) → (length bs ≡ 28 → ⊥) → unpacked 11 zeroRecord ≡ unpackOf bs
+pub unpack-size : (bs : List ℕ) → (length bs ≡ 28 → ⊥) → unpacked 11 zeroFilter ≡ unpackOf bs
 unfolding unpackOf unpackRows
 unpack-size bs h = simp (ne-eqb _ _ h)
 
-pub unpack-spare : (bs : List ℕ) → length bs ≡ 28 → (spareIn bs ≡ 0 → ⊥) → unpacked 12 zeroRecord ≡ unpackOf bs
+pub unpack-spare : (bs : List ℕ) → length bs ≡ 28 → (spareIn bs ≡ 0 → ⊥) → unpacked 12 zeroFilter ≡ unpackOf bs
 unfolding unpackOf unpackRows
 unpack-spare bs l h = simp (eq-eqb _ _ l, ne-eqb _ _ h)
 
-pub unpack-refused : (bs : List ℕ) (n : ℕ) → length bs ≡ 28 → spareIn bs ≡ 0 → n ≡ first (recordRows (recordIn bs)) → (n ≡ 0 → ⊥)
-    → unpacked n zeroRecord ≡ unpackOf bs
+pub unpack-refused : (bs : List ℕ) (n : ℕ) → length bs ≡ 28 → spareIn bs ≡ 0 → n ≡ first (filterRows (filterIn bs)) → (n ≡ 0 → ⊥)
+    → unpacked n zeroFilter ≡ unpackOf bs
 unfolding unpackOf unpackRows
-unpack-refused bs n l s e z = simp (eq-eqb _ _ l, eq-eqb _ _ s, sym e, done-refused n (recordIn bs) zeroRecord z)
+unpack-refused bs n l s e z = simp (eq-eqb _ _ l, eq-eqb _ _ s, sym e, done-refused n (filterIn bs) zeroFilter z)
 
-pub unpack-done : (bs : List ℕ) → length bs ≡ 28 → spareIn bs ≡ 0 → first (recordRows (recordIn bs)) ≡ 0 → unpacked 0 (recordIn bs) ≡ unpackOf bs
+pub unpack-done : (bs : List ℕ) → length bs ≡ 28 → spareIn bs ≡ 0 → first (filterRows (filterIn bs)) ≡ 0 → unpacked 0 (filterIn bs) ≡ unpackOf bs
 unfolding unpackOf unpackRows
 unpack-done bs l s e = simp (eq-eqb _ _ l, eq-eqb _ _ s, e)

@@ -8,39 +8,39 @@ use borrow.Author.Tests.{ne-eqb}
 use Rattle.octets.specs.Layout.{total, join, split, octets, number, bytes}
 use Rattle.octets.proofs.Layouts.{fit-test, fit-each}
 use Rattle.refusal.specs.Refusal.{Filled, filled, first}
-use Rattle.filter.specs.Filter.{FieldsFit, partsIn, spareIn, recordIn, bytesOf, setPast, recordRows, unpackRows, packOf, unpackOf}
+use Rattle.filter.specs.Filter.{FieldsFit, partsIn, spareIn, filterIn, bytesOf, setPast, filterRows, unpackRows, packOf, unpackOf}
 use Rattle.filter.specs.Examples.{permit, Example6, Example7, Example8, Example9, Example10, deny11, Example11}
 use Rattle.filter.proofs.Calls.{pack-refused, pack-done}
 use Rattle.filter.proofs.Fields.{written, front-number, word-of}
 
 pub example-6 : Example6
-unfolding total join split number bytes partsIn bytesOf recordIn spareIn setPast recordRows unpackRows unpackOf
+unfolding total join split number bytes partsIn bytesOf filterIn spareIn setPast filterRows unpackRows unpackOf
 example-6 = ((λ out l. sym (pack-done (permit 0 24 24 64496) out l refl)), refl)
 
 pub example-7 : Example7
-unfolding total join split number bytes partsIn bytesOf recordIn spareIn setPast recordRows unpackRows unpackOf
+unfolding total join split number bytes partsIn bytesOf filterIn spareIn setPast filterRows unpackRows unpackOf
 example-7 = refl
 
 pub example-8 : Example8
-unfolding total join split number bytes partsIn bytesOf recordIn spareIn setPast recordRows unpackRows unpackOf
+unfolding total join split number bytes partsIn bytesOf filterIn spareIn setPast filterRows unpackRows unpackOf
 example-8 = (
   ((λ out l. sym (pack-refused (permit 0 33 33 64496) out 13 l refl (λ x. omega arith))), refl),
   ((λ out l. sym (pack-refused (permit 0 25 24 64496) out 13 l refl (λ x. omega arith))), refl),
 )
 
 pub example-9 : Example9
-unfolding total join split number bytes partsIn bytesOf recordIn spareIn setPast recordRows unpackRows unpackOf
+unfolding total join split number bytes partsIn bytesOf filterIn spareIn setPast filterRows unpackRows unpackOf
 example-9 = ((λ out l. sym (pack-refused (permit 1 24 24 64496) out 14 l refl (λ x. omega arith))), refl)
 
 pub example-10 : Example10
-unfolding total join split number bytes partsIn bytesOf recordIn spareIn setPast recordRows unpackRows unpackOf
+unfolding total join split number bytes partsIn bytesOf filterIn spareIn setPast filterRows unpackRows unpackOf
 example-10 = ((λ out l. sym (pack-refused (permit 0 24 24 0) out 15 l refl (λ x. omega arith))), refl)
 
 fits-11 : (a s : ℕ) → a < 2 ^ 32 → s < 2 ^ 32 → FieldsFit (deny11 a s)
 fits-11 a s h g = record { length = omega arith; longest = omega arith; member = h; serial = g; prefix = fit-test (octets 16) (replicate 15 0 ++ (1 ∷ [])) tt }
 
-rows-11 : (a s : ℕ) → 0 < a → first (recordRows (deny11 a s)) ≡ 0
-unfolding recordRows setPast number join total
+rows-11 : (a s : ℕ) → 0 < a → first (filterRows (deny11 a s)) ≡ 0
+unfolding filterRows setPast number join total
 rows-11 a s h = simp (ne-eqb a 0 (λ e. omega arith))
 
 pub example-11 : Example11

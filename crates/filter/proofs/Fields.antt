@@ -8,7 +8,7 @@ use lib.ListN.{length, getD, drop, take, length-drop, take-append-drop}
 use lib.Seq.{getD-drop, take-all, drop-cons}
 use Rattle.octets.specs.Layout.{total, join, split, Fit, none, more, octets, number, bytes}
 use Rattle.octets.proofs.Layouts.{join-append, number-append, number-join, number-below, bytes-number, split-join, meet, fit-each, fit-append, fit-bytes, fit-length}
-use Rattle.filter.specs.Filter.{widths, partsIn, partsOf, recordOf, familyNumber, actionNumber, familyOf, actionOf, bytesOf, recordIn, spareIn, FieldsFit}
+use Rattle.filter.specs.Filter.{widths, partsIn, partsOf, filterOf, familyNumber, actionNumber, familyOf, actionOf, bytesOf, filterIn, spareIn, FieldsFit}
 use Rattle.filter.specs.declared.FilterRecord.{FilterRecord}
 use Rattle.filter.specs.declared.Family.{Family}
 use Rattle.filter.specs.declared.Action.{Action}
@@ -116,15 +116,15 @@ module _ (b : List ℕ) (l : length b ≡ 28) (g : (i : ℕ) → getD b i 0 < 2 
   unfolding spareIn
   spare-is s e = e ∙ ap (λ (v : List ℕ). getD v 4 0) (sym read-is)
 
-  pub record-is : (r : FilterRecord) → r .family ≡ familyOf (getD b 0 0 / 128) → r .action ≡ actionOf (getD b 0 0 / 64 % 2)
+  pub filter-is : (r : FilterRecord) → r .family ≡ familyOf (getD b 0 0 / 128) → r .action ≡ actionOf (getD b 0 0 / 64 % 2)
       → r .length ≡ getD b 0 0 % 64 * 4 + getD b 1 0 / 64
       → r .longest ≡ getD b 1 0 % 64 * 4 + getD b 2 0 / 64
       → r .member ≡ word (getD b 4 0) (getD b 5 0) (getD b 6 0) (getD b 7 0)
       → r .serial ≡ word (getD b 8 0) (getD b 9 0) (getD b 10 0) (getD b 11 0)
       → r .prefix ≡ take 16 (drop 12 b)
-      → r ≡ recordIn b
-  unfolding recordIn
-  record-is r ef ea el em eM eS ep =
+      → r ≡ filterIn b
+  unfolding filterIn
+  filter-is r ef ea el em eM eS ep =
       let t : take 16 (drop 12 b) ≡ drop 12 b = take-all 16 (drop 12 b) (simp length-drop (omega arith)) in
       let q : bytes 16 (number (drop 12 b)) ≡ drop 12 b = bytes-number 16 prefix-fits in
-      rw read-is (same-fields r (recordOf (fronts ++ (number (drop 12 b) ∷ []))) ef ea el em eM eS (ep ∙ t ∙ sym q))
+      rw read-is (same-fields r (filterOf (fronts ++ (number (drop 12 b) ∷ []))) ef ea el em eM eS (ep ∙ t ∙ sym q))

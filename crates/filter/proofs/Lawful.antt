@@ -6,7 +6,7 @@ use native.Mathlib.Omega.{arith}
 use lib.ListN.{length}
 use borrow.Author.Tests.{ne-eqb, eqb-false, le-leb, leb-true, not-false}
 use Rattle.refusal.specs.Refusal.{choose, first}
-use Rattle.filter.specs.Filter.{Lawful, recordRows}
+use Rattle.filter.specs.Filter.{Lawful, filterRows}
 use Rattle.filter.specs.declared.FilterRecord.{FilterRecord}
 use Rattle.filter.proofs.Past.{past-bits, bits-past}
 
@@ -18,13 +18,13 @@ both : (a b : Bool) → not (a && b) ≡ false → (a ≡ true) × (b ≡ true)
 both true b e = (refl, not-false b e)
 both false b e = absurd (let z : _≡_ {A = ℕ} 0 1 = cc in omega arith)
 
-pub lawful-none : (r : FilterRecord) → length (r .prefix) ≡ 16 → Lawful r → first (recordRows r) ≡ 0
-unfolding recordRows
+pub lawful-none : (r : FilterRecord) → length (r .prefix) ≡ 16 → Lawful r → first (filterRows r) ≡ 0
+unfolding filterRows
 lawful-none r n l =
     simp (le-leb _ _ (l .ordered), le-leb _ _ (l .bounded), bits-past (r .prefix) (r .length) n (l .clear), ne-eqb _ _ (l .member))
 
-pub none-lawful : (r : FilterRecord) → length (r .prefix) ≡ 16 → first (recordRows r) ≡ 0 → Lawful r
-unfolding recordRows
+pub none-lawful : (r : FilterRecord) → length (r .prefix) ≡ 16 → first (filterRows r) ≡ 0 → Lawful r
+unfolding filterRows
 none-lawful r n e =
     let lengths = passed _ 12 e in
     let past = passed _ 13 (lengths .1) in

@@ -10,7 +10,7 @@ use borrow.Author.Tests.{eq-eqb, eqb-true, not-false}
 use Rattle.octets.specs.Layout.{total, join, split, Fit, none, more, octets, number, bytes}
 use Rattle.octets.proofs.Layouts.{join-below, split-fits, split-join, join-split, fit-each, fit-length, number-bytes, number-below, bytes-number, bytes-length}
 use Rattle.refusal.specs.Refusal.{Filled, filled}
-use Rattle.filter.specs.Filter.{widths, partsIn, partsOf, recordOf, familyNumber, actionNumber, familyOf, actionOf, bytesOf, recordIn, spareIn, FieldsFit, BytesFit, Lawful, LawfulBytes, packRows, unpackRows, packOf, unpacked, unpackOf}
+use Rattle.filter.specs.Filter.{widths, partsIn, partsOf, filterOf, familyNumber, actionNumber, familyOf, actionOf, bytesOf, filterIn, spareIn, FieldsFit, BytesFit, Lawful, LawfulBytes, packRows, unpackRows, packOf, unpacked, unpackOf}
 use Rattle.filter.specs.Promises.{OneToOne}
 use Rattle.filter.specs.declared.FilterRecord.{FilterRecord}
 use Rattle.filter.specs.declared.Unpacked.{Unpacked}
@@ -62,16 +62,16 @@ module _ (r : FilterRecord) (k : FieldsFit r) where
       fit-each widths (partsOf r)
       (family-below (r .family), (action-below (r .action), (k .length, (k .longest, (omega arith, (k .member, (k .serial, (number-below 16 (k .prefix), tt))))))))
 
-  parts-back : recordOf (partsOf r) ≡ r
-  parts-back = same-fields (recordOf (partsOf r)) r (family-back (r .family)) (action-back (r .action)) refl refl refl refl (bytes-number 16 (k .prefix))
+  parts-back : filterOf (partsOf r) ≡ r
+  parts-back = same-fields (filterOf (partsOf r)) r (family-back (r .family)) (action-back (r .action)) refl refl refl refl (bytes-number 16 (k .prefix))
 
   parts-held : partsIn (bytesOf r) ≡ partsOf r
   unfolding partsIn bytesOf
   parts-held = ap (split widths) (number-bytes 28 (join widths (partsOf r)) (all-bits parts-fit)) ∙ split-join parts-fit
 
-  pub record-held : recordIn (bytesOf r) ≡ r
-  unfolding recordIn
-  record-held = ap recordOf parts-held ∙ parts-back
+  pub filter-held : filterIn (bytesOf r) ≡ r
+  unfolding filterIn
+  filter-held = ap filterOf parts-held ∙ parts-back
 
   pub spare-held : spareIn (bytesOf r) ≡ 0
   unfolding spareIn
@@ -87,7 +87,7 @@ bytesOf-fit r = rw (bytesOf-length r) (split-fits (octets 28) (join widths (part
 
 -- ---- from bytes to a filter record and back
 
-parts-there : {v : List ℕ} → Fit widths v → getD v 4 0 ≡ 0 → partsOf (recordOf v) ≡ v
+parts-there : {v : List ℕ} → Fit widths v → getD v 4 0 ≡ 0 → partsOf (filterOf v) ≡ v
 parts-there (more {v = f} hf (more {v = a} ha (more {v = l} hl (more {v = m} hm (more {v = s} hs (more {v = M} hM (more {v = S} hS (more {v = p} hp none)))))))) z =
     of (family-there f hf) (action-there a ha) (sym z) (number-bytes 16 p hp)
   where
@@ -95,22 +95,22 @@ parts-there (more {v = f} hf (more {v = a} ha (more {v = l} hl (more {v = m} hm 
         → f′ ∷ a′ ∷ l ∷ m ∷ s′ ∷ M ∷ S ∷ p′ ∷ [] ≡ f ∷ a ∷ l ∷ m ∷ s ∷ M ∷ S ∷ p ∷ []
     of e g h k = cc
 
-fields-fit : {v : List ℕ} → Fit widths v → FieldsFit (recordOf v)
+fields-fit : {v : List ℕ} → Fit widths v → FieldsFit (filterOf v)
 unfolding bytes
 fields-fit (more hf (more ha (more {v = l} hl (more {v = m} hm (more hs (more {v = M} hM (more {v = S} hS (more {v = p} hp none)))))))) =
     record { length = hl; longest = hm; member = hM; serial = hS; prefix = split-fits (octets 16) p }
 
-pub recordIn-fit : (bs : List ℕ) → FieldsFit (recordIn bs)
-unfolding recordIn partsIn
-recordIn-fit bs = fields-fit (split-fits widths (number bs))
+pub filterIn-fit : (bs : List ℕ) → FieldsFit (filterIn bs)
+unfolding filterIn partsIn
+filterIn-fit bs = fields-fit (split-fits widths (number bs))
 
 module _ (bs : List ℕ) (f : Fit (octets 28) bs) where
   number-held : join widths (partsIn bs) ≡ number bs
   unfolding partsIn total
   number-held = join-split widths (number bs) (number-below 28 f)
 
-  pub bytes-held : spareIn bs ≡ 0 → bytesOf (recordIn bs) ≡ bs
-  unfolding bytesOf recordIn spareIn partsIn
+  pub bytes-held : spareIn bs ≡ 0 → bytesOf (filterIn bs) ≡ bs
+  unfolding bytesOf filterIn spareIn partsIn
   bytes-held z =
       ap (λ (v : List ℕ). bytes 28 (join widths v)) (parts-there (split-fits widths (number bs)) z) ∙ ap (bytes 28) number-held ∙ bytes-number 28 f
 
@@ -123,22 +123,22 @@ prefix-length k = fit-length (k .prefix)
 pub packs : (r : FilterRecord) (out : List ℕ) → FieldsFit r → Lawful r → length out ≡ 28 → packOf r out ≡ filled 0 (bytesOf r)
 packs r out k l n = sym (pack-done r out n (lawful-none r (prefix-length k) l))
 
-pub unpacks : (bs : List ℕ) → LawfulBytes bs → unpackOf bs ≡ unpacked 0 (recordIn bs)
-unpacks bs l = sym (unpack-done bs (l .size) (l .spare) (lawful-none (recordIn bs) (prefix-length (recordIn-fit bs)) (l .filter)))
+pub unpacks : (bs : List ℕ) → LawfulBytes bs → unpackOf bs ≡ unpacked 0 (filterIn bs)
+unpacks bs l = sym (unpack-done bs (l .size) (l .spare) (lawful-none (filterIn bs) (prefix-length (filterIn-fit bs)) (l .filter)))
 
 bytes-lawful : (r : FilterRecord) → FieldsFit r → Lawful r → LawfulBytes (bytesOf r)
-bytes-lawful r k l = record { size = bytesOf-length r; spare = spare-held r k; filter = rw (record-held r k) l }
+bytes-lawful r k l = record { size = bytesOf-length r; spare = spare-held r k; filter = rw (filter-held r k) l }
 
 -- a lawful filter record comes back from its bytes
 pub unpack-pack : (r : FilterRecord) (out : List ℕ) → FieldsFit r → Lawful r → length out ≡ 28 → unpackOf (packOf r out .out) ≡ unpacked 0 r
 unpack-pack r out k l n =
-    ap (λ (x : Filled). unpackOf (x .out)) (packs r out k l n) ∙ unpacks (bytesOf r) (bytes-lawful r k l) ∙ ap (unpacked 0) (record-held r k)
+    ap (λ (x : Filled). unpackOf (x .out)) (packs r out k l n) ∙ unpacks (bytesOf r) (bytes-lawful r k l) ∙ ap (unpacked 0) (filter-held r k)
 
 -- lawful bytes come back from their filter record
 pub pack-unpack : (bs out : List ℕ) → BytesFit bs → LawfulBytes bs → length out ≡ 28 → packOf (unpackOf bs .filter) out ≡ filled 0 bs
 pack-unpack bs out f l n =
     let g : Fit (octets 28) bs = rw (l .size) at f in
-    ap (λ (x : Unpacked). packOf (x .filter) out) (unpacks bs l) ∙ packs (recordIn bs) out (recordIn-fit bs) (l .filter) n ∙ ap (filled 0) (bytes-held bs g (l .spare))
+    ap (λ (x : Unpacked). packOf (x .filter) out) (unpacks bs l) ∙ packs (filterIn bs) out (filterIn-fit bs) (l .filter) n ∙ ap (filled 0) (bytes-held bs g (l .spare))
 
 pub pack-accepts : (r : FilterRecord) (out : List ℕ) → FieldsFit r → (packOf r out .number ≡ 0) ↔ ((length out ≡ 28) × Lawful r)
 unfolding packOf packRows
@@ -152,7 +152,7 @@ unfolding unpackOf unpackRows
 unpack-accepts bs = (
   (λ e. let s = passed _ 10 e in
       let t = passed _ 11 (s .1) in
-      record { size = eqb-true _ _ (not-false _ (s .0)); spare = eqb-true _ _ (not-false _ (t .0)); filter = none-lawful (recordIn bs) (prefix-length (recordIn-fit bs)) (t .1) }),
+      record { size = eqb-true _ _ (not-false _ (s .0)); spare = eqb-true _ _ (not-false _ (t .0)); filter = none-lawful (filterIn bs) (prefix-length (filterIn-fit bs)) (t .1) }),
   (λ l. ap (λ (x : Unpacked). x .number) (unpacks bs l)),
 )
 
@@ -163,9 +163,9 @@ one-to-one = record {
   pack-accepts = pack-accepts;
   unpack-accepts = unpack-accepts;
   packed-lawful = λ r out k l n. rw (packs r out k l n) (bytesOf-fit r, bytes-lawful r k l);
-  unpacked-lawful = λ bs l. rw (unpacks bs l) (recordIn-fit bs, l .filter);
+  unpacked-lawful = λ bs l. rw (unpacks bs l) (filterIn-fit bs, l .filter);
   one-form = λ bs cs f g l m e. one-form bs cs f g l m e;
-  one-record = one-record;
+  one-filter = one-filter;
 }
   where
     zeros : List ℕ
@@ -174,5 +174,5 @@ one-to-one = record {
     one-form : (bs cs : List ℕ) → BytesFit bs → BytesFit cs → LawfulBytes bs → LawfulBytes cs → unpackOf bs .filter ≡ unpackOf cs .filter → bs ≡ cs
     one-form bs cs f g l m e = ap (λ (x : Filled). x .out) (sym (pack-unpack bs zeros f l refl) ∙ ap (λ (r : FilterRecord). packOf r zeros) e ∙ pack-unpack cs zeros g m refl)
 
-    one-record : (r s : FilterRecord) (out : List ℕ) → FieldsFit r → FieldsFit s → Lawful r → Lawful s → length out ≡ 28 → packOf r out .out ≡ packOf s out .out → r ≡ s
-    one-record r s out k j l m n e = ap (λ (x : Unpacked). x .filter) (sym (unpack-pack r out k l n) ∙ ap unpackOf e ∙ unpack-pack s out j m n)
+    one-filter : (r s : FilterRecord) (out : List ℕ) → FieldsFit r → FieldsFit s → Lawful r → Lawful s → length out ≡ 28 → packOf r out .out ≡ packOf s out .out → r ≡ s
+    one-filter r s out k j l m n e = ap (λ (x : Unpacked). x .filter) (sym (unpack-pack r out k l n) ∙ ap unpackOf e ∙ unpack-pack s out j m n)

@@ -5,7 +5,7 @@ use mathlib.Core.List.{List, [], _∷_, _++_}
 use Prim.Native.Nat.{ℕ, _^_, _<_}
 use lib.ListN.{length, take, set, replicate}
 use Rattle.refusal.specs.Refusal.{filled}
-use Rattle.filter.specs.Filter.{bytesOf, packOf, unpackOf, unpacked, zeroRecord}
+use Rattle.filter.specs.Filter.{bytesOf, packOf, unpackOf, unpacked, zeroFilter}
 use Rattle.filter.specs.declared.Family.the-variants.{Ipv4, Ipv6}
 use Rattle.filter.specs.declared.Action.the-variants.{Deny, Permit}
 use Rattle.filter.specs.declared.FilterRecord.{FilterRecord}
@@ -16,7 +16,7 @@ permit x l m a = record { family = Ipv4; action = Permit; length = l; longest = 
 
 -- pack refuses it for every buffer of 28 bytes, and unpack refuses its bytes
 abbrev pub Refuses : ℕ → FilterRecord → Type 0
-Refuses n r = ((out : List ℕ) → length out ≡ 28 → packOf r out ≡ filled n out) × (unpackOf (bytesOf r) ≡ unpacked n zeroRecord)
+Refuses n r = ((out : List ℕ) → length out ≡ 28 → packOf r out ≡ filled n out) × (unpackOf (bytesOf r) ≡ unpacked n zeroFilter)
 
 abbrev pub bytes6 : List ℕ
 bytes6 =
@@ -26,7 +26,7 @@ abbrev pub Example6 : Type 0
 Example6 = ((out : List ℕ) → length out ≡ 28 → packOf (permit 0 24 24 64496) out ≡ filled 0 bytes6) × (unpackOf bytes6 ≡ unpacked 0 (permit 0 24 24 64496))
 
 abbrev pub Example7 : Type 0
-Example7 = unpackOf (set bytes6 3 0x01) ≡ unpacked 12 zeroRecord
+Example7 = unpackOf (set bytes6 3 0x01) ≡ unpacked 12 zeroFilter
 
 abbrev pub Example8 : Type 0
 Example8 = Refuses 13 (permit 0 33 33 64496) × Refuses 13 (permit 0 25 24 64496)

@@ -41,8 +41,8 @@ abbrev pub partsOf : FilterRecord → List ℕ
 partsOf r =
     familyNumber (r .family) ∷ actionNumber (r .action) ∷ r .length ∷ r .longest ∷ 0 ∷ r .member ∷ r .serial ∷ number (r .prefix) ∷ []
 
-abbrev pub recordOf : List ℕ → FilterRecord
-recordOf vs = record {
+abbrev pub filterOf : List ℕ → FilterRecord
+filterOf vs = record {
   family = familyOf (getD vs 0 0);
   action = actionOf (getD vs 1 0);
   length = getD vs 2 0;
@@ -62,8 +62,8 @@ partsIn bs = split widths (number bs)
 unfoldable pub spareIn : List ℕ → ℕ
 spareIn bs = getD (partsIn bs) 4 0
 
-unfoldable pub recordIn : List ℕ → FilterRecord
-recordIn bs = recordOf (partsIn bs)
+unfoldable pub filterIn : List ℕ → FilterRecord
+filterIn bs = filterOf (partsIn bs)
 
 -- ---- Lawful
 
@@ -85,7 +85,7 @@ pub record Lawful (r : FilterRecord) : Type 0 where
 pub record LawfulBytes (bs : List ℕ) : Type 0 where
   pub size : length bs ≡ 28
   pub spare : spareIn bs ≡ 0
-  pub filter : Lawful (recordIn bs)
+  pub filter : Lawful (filterIn bs)
 
 -- what every value of the types has, and a plain number or list need not: each field, and each byte, fits its type
 pub record FieldsFit (r : FilterRecord) : Type 0 where
@@ -105,8 +105,8 @@ unfoldable pub setPast : List ℕ → ℕ → Bool
 setPast p l = not (eqb (number p % 2 ^ (8 * length p - l)) 0)
 
 -- 13 lengths unlawful, 14 a bit past the prefix length set, 15 member number 0
-unfoldable pub recordRows : FilterRecord → List Row
-recordRows r =
+unfoldable pub filterRows : FilterRecord → List Row
+filterRows r =
     when 13 (not (leb (r .length) (r .longest) && leb (r .longest) (topOf (r .family))))
     ∷ when 14 (setPast (r .prefix) (r .length))
     ∷ when 15 (eqb (r .member) 0)
@@ -114,11 +114,11 @@ recordRows r =
 
 -- 11 buffer not 28 bytes
 unfoldable pub packRows : FilterRecord → List ℕ → List Row
-packRows r out = when 11 (not (eqb (length out) 28)) ∷ recordRows r
+packRows r out = when 11 (not (eqb (length out) 28)) ∷ filterRows r
 
 -- 11, and 12 a spare bit set
 unfoldable pub unpackRows : List ℕ → List Row
-unpackRows bs = when 11 (not (eqb (length bs) 28)) ∷ when 12 (not (eqb (spareIn bs) 0)) ∷ recordRows (recordIn bs)
+unpackRows bs = when 11 (not (eqb (length bs) 28)) ∷ when 12 (not (eqb (spareIn bs) 0)) ∷ filterRows (filterIn bs)
 
 -- ---- The calls
 
@@ -126,11 +126,11 @@ unfoldable pub packOf : FilterRecord → List ℕ → Filled
 packOf r out = fills (packRows r out) (bytesOf r) out
 
 -- all fields zero
-abbrev pub zeroRecord : FilterRecord
-zeroRecord = record { family = familyOf 0; action = actionOf 0; length = 0; longest = 0; member = 0; serial = 0; prefix = replicate 16 0 }
+abbrev pub zeroFilter : FilterRecord
+zeroFilter = record { family = familyOf 0; action = actionOf 0; length = 0; longest = 0; member = 0; serial = 0; prefix = replicate 16 0 }
 
 abbrev pub unpacked : ℕ → FilterRecord → Unpacked
 unpacked n r = record { number = n; filter = r }
 
 unfoldable pub unpackOf : List ℕ → Unpacked
-unpackOf bs = unpacked (first (unpackRows bs)) (done (first (unpackRows bs)) (recordIn bs) zeroRecord)
+unpackOf bs = unpacked (first (unpackRows bs)) (done (first (unpackRows bs)) (filterIn bs) zeroFilter)

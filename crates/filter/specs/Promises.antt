@@ -9,7 +9,7 @@ use mathlib.Core.Option.{none}
 use Prim.Native.Nat.{ℕ}
 use lib.ListN.{length}
 use Rattle.refusal.specs.Refusal.{Given, filled}
-use Rattle.filter.specs.Filter.{FieldsFit, BytesFit, Lawful, LawfulBytes, packRows, unpackRows, packOf, unpackOf, unpacked, zeroRecord}
+use Rattle.filter.specs.Filter.{FieldsFit, BytesFit, Lawful, LawfulBytes, packRows, unpackRows, packOf, unpackOf, unpacked, zeroFilter}
 use Rattle.filter.specs.Going.{goingOf, Says, goingNumber}
 use Rattle.filter.specs.declared.FilterRecord.{FilterRecord}
 use Rattle.filter.specs.declared.going.Going.{Going}
@@ -27,14 +27,14 @@ pub record OneToOne : Type 0 where
   pub unpacked-lawful : (bs : List ℕ) → LawfulBytes bs → FieldsFit (unpackOf bs .filter) × Lawful (unpackOf bs .filter)
   -- one form for each filter record, and one filter record for each form
   pub one-form : (bs cs : List ℕ) → BytesFit bs → BytesFit cs → LawfulBytes bs → LawfulBytes cs → unpackOf bs .filter ≡ unpackOf cs .filter → bs ≡ cs
-  pub one-record : (r s : FilterRecord) (out : List ℕ) → FieldsFit r → FieldsFit s → Lawful r → Lawful s → length out ≡ 28 → packOf r out .out ≡ packOf s out .out → r ≡ s
+  pub one-filter : (r s : FilterRecord) (out : List ℕ) → FieldsFit r → FieldsFit s → Lawful r → Lawful s → length out ≡ 28 → packOf r out .out ≡ packOf s out .out → r ≡ s
 
 -- each number exactly; a refused pack leaves every byte, a refused unpack gives a filter record with all fields zero
 pub record Numbers : Type 0 where
   pub pack-exactly : (n : ℕ) (r : FilterRecord) (out : List ℕ) → (packOf r out .number ≡ n) ↔ Given n (packRows r out)
   pub unpack-exactly : (n : ℕ) (bs : List ℕ) → (unpackOf bs .number ≡ n) ↔ Given n (unpackRows bs)
   pub pack-keeps : (r : FilterRecord) (out : List ℕ) → (packOf r out .number ≡ 0 → ⊥) → packOf r out .out ≡ out
-  pub unpack-zeros : (bs : List ℕ) → (unpackOf bs .number ≡ 0 → ⊥) → unpackOf bs .filter ≡ zeroRecord
+  pub unpack-zeros : (bs : List ℕ) → (unpackOf bs .number ≡ 0 → ⊥) → unpackOf bs .filter ≡ zeroFilter
 
 -- the comparison gives an answer exactly when what that answer says is true, and never a number
 pub record Compared : Type 0 where

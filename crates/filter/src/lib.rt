@@ -1,7 +1,9 @@
 // The filter record: 28 bytes for each lawful one, and one for each lawful 28 bytes.
 // going.rt: whether an offered one goes back.
-pub mod going;
+mod going;
 
+pub use going::Going;
+pub use going::compare;
 ghost use mathlib.Core.Path.{_≡_};
 ghost use mathlib.Core.Bool.{not, _&&_};
 ghost use mathlib.Core.List.{[], _∷_};
@@ -10,7 +12,7 @@ ghost use lib.ListN.{length, take};
 ghost use lib.Dec.{eqb, leb};
 ghost use Rattle.octets.specs.Layout.{join, number};
 ghost use Rattle.refusal.specs.Refusal.{when, first, filled};
-ghost use Rattle.filter.specs.Filter.{widths, familyNumber, actionNumber, familyOf, actionOf, topOf, setPast, recordRows, spareIn, recordIn, bytesOf, zeroRecord, unpacked, unpackOf, packOf};
+ghost use Rattle.filter.specs.Filter.{widths, familyNumber, actionNumber, familyOf, actionOf, topOf, setPast, filterRows, spareIn, filterIn, bytesOf, zeroFilter, unpacked, unpackOf, packOf};
 
 pub enum Family {
     Ipv4,
@@ -77,7 +79,7 @@ pub fn unpack(bytes: &[u8]) -> Unpacked
 
 // The first of the numbers 13 to 15 that is due, or 0.
 fn fault(r: FilterRecord) -> u8
-    ensures { λ n. ⌜ n ≡ first (recordRows r) ⌝ }
+    ensures { λ n. ⌜ n ≡ first (filterRows r) ⌝ }
 {
     let f = r.family;
     let p = r.prefix;
@@ -200,7 +202,7 @@ fn spare(b: [u8; 28]) -> u16
 
 // The filter record that 28 bytes hold.
 fn read(b: [u8; 28]) -> FilterRecord
-    ensures { λ r. ⌜ r ≡ recordIn b ⌝ }
+    ensures { λ r. ⌜ r ≡ filterIn b ⌝ }
 {
     let mut prefix = [0u8; 16];
     copy(&mut prefix, &b[12..28]);
@@ -224,7 +226,7 @@ fn eight(a: u8, b: u8) -> u8
 
 // A refusal: its number, and all fields zero.
 fn refused(n: u8) -> Unpacked
-    ensures { λ r. ⌜ r ≡ unpacked n zeroRecord ⌝ }
+    ensures { λ r. ⌜ r ≡ unpacked n zeroFilter ⌝ }
 {
     Unpacked {
         number: n,
@@ -245,11 +247,7 @@ fn copy(d: &mut [u8], s: &[u8])
     requires { ⌜ length (now d) ≡ length (now s) ⌝ }
     ensures { λ _. ⌜ now (d .exit) ≡ now (s .entry) ⌝ }
 {
-    let mut i: usize = 0;
-    while i < s.len() {
-        d[i] = s[i];
-        i += 1;
-    }
+    lent::copy(d, s);
 }
 
 // Four bytes as a number.

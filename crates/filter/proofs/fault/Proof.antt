@@ -4,12 +4,12 @@ use mathlib.Core.List.{[], _∷_}
 use borrow.Author.Needs.{needs}
 use lib.Dec.{eqb}
 use Rattle.refusal.specs.Refusal.{when, first}
-use Rattle.filter.specs.Filter.{recordRows}
+use Rattle.filter.specs.Filter.{filterRows}
 use Rattle.filter.proofs.fault.Statement.{statement}
 use Rattle.filter.proofs.fault.Tie as tie
 
 returns : tie.Need-returns
-unfolding recordRows
+unfolding filterRows
 returns c =
     c .due .ensures
     ∙ ap₂ (λ (a b : Bool). first (when 13 a ∷ when 14 b ∷ when 15 (eqb (c .before .before .before .before .before .args .r .member) 0) ∷ [])) (c .before .before .before .unlawful .ensures) (c .before .before .set-past .ensures)

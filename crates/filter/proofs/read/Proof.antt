@@ -5,7 +5,7 @@ use lib.ListN.{length, getD}
 use mir.Val.{Fits}
 use mir.Syntax.{w8}
 use borrow.Author.Needs.{needs}
-use Rattle.filter.proofs.Fields.{record-is}
+use Rattle.filter.proofs.Fields.{filter-is}
 use Rattle.filter.proofs.read.Statement.{statement}
 use Rattle.filter.proofs.read.Tie as tie
 
@@ -14,7 +14,7 @@ returns c =
     let b : List ℕ = c .before .before .before .before .before .before .before .before .before .before .before .args .t1 in
     let n : length b ≡ 28 = search needs in
     let g : (i : ℕ) → Fits w8 (getD b i 0) = λ i. search needs in
-    record-is b n (λ i. g i .fits) _ (c .before .before .before .before .before .family-of .ensures) (c .before .before .before .before .action-of .ensures) (c .before .before .before .eight .ensures) (c .before .before .eight2 .ensures) (c .before .word .ensures) (c .word2 .ensures) (c .before .before .before .before .before .before .before .copy .ensures)
+    filter-is b n (λ i. g i .fits) _ (c .before .before .before .before .before .family-of .ensures) (c .before .before .before .before .action-of .ensures) (c .before .before .before .eight .ensures) (c .before .before .eight2 .ensures) (c .before .word .ensures) (c .word2 .ensures) (c .before .before .before .before .before .before .before .copy .ensures)
 
 pub read-spec : {M : Type 1} → statement M
 read-spec =

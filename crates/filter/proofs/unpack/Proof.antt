@@ -2,7 +2,7 @@ use mathlib.Core.Path.{sym, ap, _∙_}
 use borrow.Author.Needs.{needs}
 use Rattle.refusal.specs.Refusal.{first}
 use Rattle.filter.specs.declared.FilterRecord.{FilterRecord}
-use Rattle.filter.specs.Filter.{recordRows, unpacked, recordIn, spareIn}
+use Rattle.filter.specs.Filter.{filterRows, unpacked, filterIn, spareIn}
 use Rattle.filter.proofs.Calls.{unpack-size, unpack-spare, unpack-refused, unpack-done}
 use Rattle.filter.proofs.unpack.Statement.{statement}
 use Rattle.filter.proofs.unpack.Tie as tie
@@ -15,13 +15,13 @@ returns-2 c = c .refused2 .ensures ∙ unpack-spare _ (c .before .before .before
 
 returns-3 : tie.Need-returns-3
 returns-3 c =
-    c .refused3 .ensures ∙ unpack-refused _ _ (c .before .before .before .before .before .before .before .before .before .if1 .left) (sym (c .before .before .before .before .before .spare .ensures ∙ ap spareIn (c .before .before .before .before .before .before .before .copy .ensures)) ∙ c .before .before .before .before .if2 .left) (c .before .before .fault .ensures ∙ ap (λ (r : FilterRecord). first (recordRows r)) (c .before .before .before .read .ensures ∙ ap recordIn (c .before .before .before .before .before .before .before .copy .ensures))) (c .before .if3 .taken)
+    c .refused3 .ensures ∙ unpack-refused _ _ (c .before .before .before .before .before .before .before .before .before .if1 .left) (sym (c .before .before .before .before .before .spare .ensures ∙ ap spareIn (c .before .before .before .before .before .before .before .copy .ensures)) ∙ c .before .before .before .before .if2 .left) (c .before .before .fault .ensures ∙ ap (λ (r : FilterRecord). first (filterRows r)) (c .before .before .before .read .ensures ∙ ap filterIn (c .before .before .before .before .before .before .before .copy .ensures))) (c .before .if3 .taken)
 
 returns-4 : tie.Need-returns-4
 returns-4 c =
-    let e = c .before .before .read .ensures ∙ ap recordIn (c .before .before .before .before .before .before .copy .ensures) in
+    let e = c .before .before .read .ensures ∙ ap filterIn (c .before .before .before .before .before .before .copy .ensures) in
     ap (unpacked 0) e
-    ∙ unpack-done _ (c .before .before .before .before .before .before .before .before .if1 .left) (sym (c .before .before .before .before .spare .ensures ∙ ap spareIn (c .before .before .before .before .before .before .copy .ensures)) ∙ c .before .before .before .if2 .left) (ap (λ (r : FilterRecord). first (recordRows r)) (sym e) ∙ sym (c .before .fault .ensures) ∙ c .if3 .left)
+    ∙ unpack-done _ (c .before .before .before .before .before .before .before .before .if1 .left) (sym (c .before .before .before .before .spare .ensures ∙ ap spareIn (c .before .before .before .before .before .before .copy .ensures)) ∙ c .before .before .before .if2 .left) (ap (λ (r : FilterRecord). first (filterRows r)) (sym e) ∙ sym (c .before .fault .ensures) ∙ c .if3 .left)
 
 pub unpack-spec : {M : Type 1} → statement M
 unpack-spec =
