@@ -27,6 +27,16 @@ use Rattle.run.proofs.Always.{not-closed, stamps, clock-bounded}
 use Rattle.run.proofs.Sound.{all}
 use Rattle.run.proofs.Honest.{Holds, Fine, agreed, done-fine}
 
+pub idle-done : (w : ℕ) (tag : List ℕ → Entry → List ℕ) (c : Call) (s : State) (m : List ℕ) → moves c ≡ false → whenDone w tag s m c ≡ idle s m
+idle-done w tag (add a v) s m e = absurd (true≢false e)
+idle-done w tag (load a o) s m e = absurd (true≢false e)
+idle-done w tag (store a v) s m e = absurd (true≢false e)
+idle-done w tag (remove a) s m e = absurd (true≢false e)
+idle-done w tag check s m e = absurd (true≢false e)
+idle-done w tag (look a) s m e = refl
+idle-done w tag count s m e = refl
+idle-done w tag lowest s m e = refl
+
 module _ (w : ℕ) (one : 1 ≤ w) (tag : List ℕ → Entry → List ℕ) (key : List ℕ) where
   -- nothing is held, or the store that the latest call left holds it
   Kept : List Lent → Log → Type 0
@@ -65,16 +75,6 @@ module _ (w : ℕ) (one : 1 ≤ w) (tag : List ℕ → Entry → List ℕ) (key 
         go (inl e) = inl e
         go (inr (y, h)) = inr (latest-keeps (Moved w tag key) run x y n, h)
 
-  idle-done : (c : Call) (s : State) (m : List ℕ) → moves c ≡ false → whenDone w tag s m c ≡ idle s m
-  idle-done (add a v) s m e = absurd (true≢false e)
-  idle-done (load a o) s m e = absurd (true≢false e)
-  idle-done (store a v) s m e = absurd (true≢false e)
-  idle-done (remove a) s m e = absurd (true≢false e)
-  idle-done check s m e = absurd (true≢false e)
-  idle-done (look a) s m e = refl
-  idle-done count s m e = refl
-  idle-done lowest s m e = refl
-
   done-more : (run : List Lent) (x : Lent) → Unaltered w tag key (run ++ (x ∷ [])) → FineIf run (s run x) (l run x) → first (rowsOf w (s run x) (x .bytes) (x .call)) ≡ 0
       → (b : Bool) → moves (x .call) ≡ b
       → let r = whenDone w tag (s run x) (x .bytes) (x .call) in FineIf (run ++ (x ∷ [])) (r .seen .state) (follow (l run x) (r .events))
@@ -91,7 +91,7 @@ module _ (w : ℕ) (one : 1 ≤ w) (tag : List ℕ → Entry → List ℕ) (key 
         kept = inr (latest-here (Moved w tag key) run x d, subst (λ (q : Step). Holds w (follow (l run x) (r .events)) (q .seen .store)) (sym (step-done w tag (s run x) (x .bytes) (x .call) e)) (y .holds));
       }
   done-more run x u f e false k o =
-      subst (λ (r : Step). FineIf (run ++ (x ∷ [])) (r .seen .state) (follow (l run x) (r .events))) (sym (idle-done (x .call) (s run x) (x .bytes) k)) (still run x (λ d. false≢true (sym k ∙ d .1)) f) o
+      subst (λ (r : Step). FineIf (run ++ (x ∷ [])) (r .seen .state) (follow (l run x) (r .events))) (sym (idle-done w tag (x .call) (s run x) (x .bytes) k)) (still run x (λ d. false≢true (sym k ∙ d .1)) f) o
 
   unaltered-part : (p q : List Lent) → Unaltered w tag key (p ++ q) → Unaltered w tag key p
   unaltered-part p q u before later x e = u before (later ++ q) x (place-stays p before x later q e)

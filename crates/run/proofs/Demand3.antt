@@ -2,6 +2,7 @@
 use mathlib.Core.List.{List}
 use Prim.Native.Nat.{ℕ, _≤_}
 use native.Mathlib.Omega.{arith}
+use Rattle.state.specs.Sizes.{width}
 use Rattle.state.specs.Cells.{Entry}
 use Rattle.run.specs.Demand3.{Demand3, Demand3Here}
 use Rattle.run.proofs.Sound.{sound}
@@ -12,4 +13,4 @@ demand3 w one tag key run = (sound w tag key run, complete w one tag key run)
 
 -- at today's width
 pub demand3-here : (tag : List ℕ → Entry → List ℕ) → Demand3Here tag
-demand3-here tag = demand3 2 (omega arith) tag
+demand3-here tag = demand3 width (omega arith) tag

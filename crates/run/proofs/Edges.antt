@@ -1,25 +1,27 @@
--- The ends of the statement: the latest call and the value last set are one, so a load has one right answer; an empty run, a run that only refuses and a
--- refused start are covered; and a check right after a start accepts. Assumes nothing.
+-- The ends of the statement: the latest call and the value last set are one, so a load has one right answer; an empty run and one that only refuses are
+-- covered; a check right after a start accepts; and a store that hands back what was left meets the second half's condition. Assumes nothing.
 use mathlib.Core.Path.{_≡_, refl, sym, ap, ap₂, _∙_, subst}
-use mathlib.Core.Bool.{false}
-use mathlib.Core.List.{List, [], _∷_, _++_, append-nil, head-eq-of-cons-eq, tail-eq-of-cons-eq}
+use mathlib.Core.Bool.{Bool, true, false}
+use mathlib.Core.List.{List, [], _∷_, _++_, append-nil, append-assoc, head-eq-of-cons-eq, tail-eq-of-cons-eq}
 use mathlib.Core.Logic.{_⊎_, inl, inr}
 use Prim.Native.Nat.{ℕ, _≤_}
 use lib.ListN.{length}
 use borrow.Author.Tests.{eq-eqb}
 use Rattle.state.specs.Sizes.{storeSize}
-use Rattle.state.specs.Cells.{Entry}
+use Rattle.refusal.specs.Refusal.{first}
+use Rattle.state.specs.Cells.{Entry, entryAt}
 use Rattle.state.specs.Start.{fresh, startOf}
 use Rattle.state.specs.Check.{checkRows}
 use Rattle.state.specs.Step.{Step}
+use Rattle.state.specs.declared.State.{State}
 use Rattle.state.specs.declared.Started.{Started}
 use Rattle.state.proofs.Starts.{start-done}
-use Rattle.run.specs.Calls.{load, check, Lent, lent, after, events}
-use Rattle.run.specs.Demand3.{Latest, stateAfter, result, eventsOf, Done, Accepts, LastSet, EachLoad, LastAccepts, Moved}
+use Rattle.run.specs.Calls.{load, check, Lent, lent, moves, after, events}
+use Rattle.run.specs.Demand3.{Latest, stateAfter, result, eventsOf, Done, Accepts, LastSet, EachLoad, LastAccepts, Moved, Unaltered}
 use Rattle.run.proofs.Lists.{by-last, place-in, no-place, last-place, place-stays}
-use Rattle.run.proofs.Steps.{by-call, done-number}
+use Rattle.run.proofs.Steps.{rowsOf, whenDone, by-call, done-number}
 use Rattle.run.proofs.Runs.{kind, sets-told, state-last, events-last}
-use Rattle.run.proofs.Complete.{complete-at}
+use Rattle.run.proofs.Complete.{idle-done, complete-at}
 
 -- ---- the latest call is one
 
@@ -83,3 +85,37 @@ module _ (w : ℕ) (tag : List ℕ → Entry → List ℕ) (key : List ℕ) wher
           go : ((r : List Lent) × ([] ≡ before ++ (x ∷ r)) × (later ≡ r ++ (lent check m ∷ []))) ⊎ ((before ≡ []) × (x ≡ lent check m)) → ⊥
           go (inl (r, f, g)) = no-place before x r f
           go (inr (f, g)) = no-place (l .before) (l .call) (l .later) (sym f ∙ l .place)
+
+  -- ---- a store that hands back what was left meets the second half's condition
+
+  -- a call that does not move leaves the store as it was lent
+  still-lent : (before : List Lent) (x : Lent) → (Moved w tag key before x → ⊥) → result w tag key before x .seen .store ≡ x .bytes
+  still-lent before x n =
+      by-call w tag s (x .bytes) (λ (r : Step). r .seen .store ≡ x .bytes) (x .call) (λ e. go e (moves (x .call)) refl) (λ k e. refl)
+    where
+      s : State
+      s = stateAfter w tag key before
+
+      go : first (rowsOf w s (x .bytes) (x .call)) ≡ 0 → (b : Bool) → moves (x .call) ≡ b → whenDone w tag s (x .bytes) (x .call) .seen .store ≡ x .bytes
+      go e true k = absurd (n (done-number w tag s (x .bytes) (x .call) e, k))
+      go e false k = ap (λ (r : Step). r .seen .store) (idle-done w tag (x .call) s (x .bytes) k)
+
+  pub handed-back : (run : List Lent) → ((before later : List Lent) (x y : Lent) → run ≡ before ++ (x ∷ (y ∷ later)) → y .bytes ≡ result w tag key before x .seen .store) → Unaltered w tag key run
+  handed-back run h before later y place d l a u = ap (λ (m : List ℕ). entryAt w m a) (back (l .later) y later (place ∙ ap (λ (b : List Lent). b ++ (y ∷ later)) (l .place) ∙ append-assoc (l .before) (l .call ∷ l .later) (y ∷ later)) (l .last))
+    where
+      store : List ℕ
+      store = result w tag key (l .before) (l .call) .seen .store
+
+      -- from y back to the latest call that moved, over those that did not
+      Back : List Lent → Type 0
+      Back mid =
+          (y : Lent) (later : List Lent) → run ≡ l .before ++ (l .call ∷ (mid ++ (y ∷ later)))
+          → ((p q : List Lent) (x : Lent) → mid ≡ p ++ (x ∷ q) → Moved w tag key (l .before ++ (l .call ∷ p)) x → ⊥) → y .bytes ≡ store
+
+      back : (mid : List Lent) → Back mid
+      back =
+          by-last Back (λ y later e n. h (l .before) later (l .call) y e)
+          (λ mid z ih y later e n.
+          h (l .before ++ (l .call ∷ mid)) later z y (e ∙ simp append-assoc)
+          ∙ still-lent (l .before ++ (l .call ∷ mid)) z (n mid [] z refl)
+          ∙ ih z (y ∷ later) (e ∙ simp append-assoc) (λ p q x k. n p (q ++ (z ∷ [])) x (place-stays mid p x q (z ∷ []) k)))
