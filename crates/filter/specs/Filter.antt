@@ -15,7 +15,7 @@ use Rattle.filter.specs.declared.Action.the-variants.{Deny, Permit}
 use Rattle.filter.specs.declared.FilterRecord.{FilterRecord}
 use Rattle.filter.specs.declared.Unpacked.{Unpacked}
 
--- ---- The layout
+-- ---- 01, "The filter record": the layout
 
 -- bits from the most significant of byte 0: family, action, prefix length, longest length, spare, member AS number, key serial, prefix
 abbrev pub widths : List ℕ
@@ -65,7 +65,7 @@ spareIn bs = getD (partsIn bs) 4 0
 unfoldable pub filterIn : List ℕ → FilterRecord
 filterIn bs = filterOf (partsIn bs)
 
--- ---- Lawful
+-- ---- 01, "The filter record": lawful. IPv4 uses the first 32 prefix bits: its length is at most 32, and all bits past it are 0
 
 -- the longest length that a family has
 abbrev pub topOf : Family → ℕ
@@ -98,7 +98,7 @@ pub record FieldsFit (r : FilterRecord) : Type 0 where
 abbrev pub BytesFit : List ℕ → Type 0
 BytesFit bs = Fit (octets (length bs)) bs
 
--- ---- Numbers 11 to 15
+-- ---- 01, "Numbers given back": 11 to 15, in order
 
 -- some bit of these bytes past the first l is set
 unfoldable pub setPast : List ℕ → ℕ → Bool
@@ -120,7 +120,7 @@ packRows r out = when 11 (not (eqb (length out) 28)) ∷ filterRows r
 unfoldable pub unpackRows : List ℕ → List Row
 unpackRows bs = when 11 (not (eqb (length bs) 28)) ∷ when 12 (not (eqb (spareIn bs) 0)) ∷ filterRows (filterIn bs)
 
--- ---- The calls
+-- ---- 01, "Numbers given back": what the calls give
 
 unfoldable pub packOf : FilterRecord → List ℕ → Filled
 packOf r out = fills (packRows r out) (bytesOf r) out
