@@ -1,9 +1,9 @@
 -- The marks as a set of addresses: the count is how many there are, and the lowest free is the smallest that is not among them. Assumes nothing.
 use mathlib.Core.Path.{_≡_, refl, sym, ap, _∙_}
-use mathlib.Core.Bool.{Bool, true, false}
+use mathlib.Core.Bool.{Bool, true, false, not}
 use mathlib.Core.List.{List, [], _∷_, _++_, append-nil, List·Memᴰ, List·Memᴰ·head, List·Memᴰ·tail, List·Memᴰ·not-nil, List·Memᴰ·cases-cons, List·Memᴰ·append-cases, List·Memᴰ·eq-of-singleton, Memᴰ·append-left, Memᴰ·append-right}
 use mathlib.Core.Logic.{_⊎_, inl, inr, ⊎-elim, _↔_}
-use Prim.Native.Nat.{ℕ, zero, suc, _+_, _≤_, _<_}
+use Prim.Native.Nat.{ℕ, zero, suc, _+_, _-_, _≤_, _<_}
 use native.Mathlib.Nat.{eq-or-lt-of-le, le-of-suc-le-suc, not-suc-le-zero}
 use native.Mathlib.Numerals.{add-one}
 use native.Mathlib.Omega.{arith}
@@ -12,6 +12,7 @@ use Rattle.refusal.specs.Refusal.{choose}
 use Rattle.state.specs.Sizes.{addresses}
 use Rattle.state.specs.Marks.{used, countBelow, countOf, lowestFrom}
 use Rattle.state.specs.Check.{inUse}
+use Rattle.marks.specs.Next.{firstFrom, nextUsed}
 
 -- the addresses in use below n
 abbrev pub usedBelow : List ℕ → ℕ → List ℕ
@@ -21,13 +22,6 @@ usedBelow ws n = inUse (λ a. a) ws n
 abbrev pub Distinct : List ℕ → Type 0
 Distinct [] = Unit
 Distinct (x ∷ xs) = (List·Memᴰ x xs → ⊥) × Distinct xs
-
--- r is the smallest of the k addresses from a on that is not in use, or a + k
-pub record Smallest (ws : List ℕ) (a k r : ℕ) : Type 0 where
-  pub from : a ≤ r
-  pub to : r ≤ a + k
-  pub below : (b : ℕ) → a ≤ b → b < r → used ws b ≡ true
-  pub free : r < a + k → used ws r ≡ false
 
 -- ---- the count
 
@@ -79,32 +73,69 @@ pub count-is : (ws : List ℕ) → (countOf ws ≡ length (usedBelow ws addresse
 unfolding countOf
 count-is ws = (count-length ws addresses, in-use-once ws addresses, λ a. (in-use-only ws addresses a, λ h. in-use-all ws addresses a (h .0) (h .1)))
 
--- ---- the lowest free address
+-- ---- the first address that something holds of
 
-pub smallest-only : (ws : List ℕ) (a k r : ℕ) → Smallest ws a k r → lowestFrom k a ws ≡ r
-unfolding lowestFrom
-smallest-only ws a zero r s = omega (arith, s .from, s .to)
-smallest-only ws a (suc k) r s =
-    ⊎-elim here
+-- r is the smallest of the k numbers from a on that p holds of, or a + k
+pub record First (p : ℕ → Bool) (k a r : ℕ) : Type 0 where
+  pub from : a ≤ r
+  pub to : r ≤ a + k
+  pub before : (b : ℕ) → a ≤ b → b < r → p b ≡ false
+  pub here : r < a + k → p r ≡ true
+
+pub first-only : (p : ℕ → Bool) (k a r : ℕ) → First p k a r → firstFrom p k a ≡ r
+unfolding firstFrom
+first-only p zero a r s = omega (arith, s .from, s .to)
+first-only p (suc k) a r s =
+    ⊎-elim at
     (λ h.
-    rw (s .below a (omega arith) h)
-    (smallest-only ws (suc a) k r (record { from = h; to = omega (arith, s .to); below = λ b g l. s .below b (omega arith) l; free = λ g. s .free (omega arith) })))
+    rw (s .before a (omega arith) h)
+    (first-only p k (suc a) r (record { from = h; to = omega (arith, s .to); before = λ b g l. s .before b (omega arith) l; here = λ g. s .here (omega arith) })))
     (eq-or-lt-of-le (s .from))
   where
-    here : a ≡ r → choose (used ws a) (lowestFrom k (suc a) ws) a ≡ r
-    here e = rw (ap (used ws) e ∙ s .free (omega arith)) e
+    at : a ≡ r → choose (p a) a (firstFrom p k (suc a)) ≡ r
+    at e = rw (ap p e ∙ s .here (omega arith)) e
 
-pub smallest-is : (ws : List ℕ) (a k : ℕ) → Smallest ws a k (lowestFrom k a ws)
-unfolding lowestFrom
-smallest-is ws a zero = record { from = omega arith; to = omega arith; below = λ b g l. absurd (omega arith); free = λ l. absurd (omega arith) }
-smallest-is ws a (suc k) = step (used ws a) refl (smallest-is ws (suc a) k)
+pub first-is : (p : ℕ → Bool) (k a : ℕ) → First p k a (firstFrom p k a)
+unfolding firstFrom
+first-is p zero a = record { from = omega arith; to = omega arith; before = λ b g l. absurd (omega arith); here = λ l. absurd (omega arith) }
+first-is p (suc k) a = step (p a) refl (first-is p k (suc a))
   where
-    step : (t : Bool) → used ws a ≡ t → Smallest ws (suc a) k (lowestFrom k (suc a) ws) → Smallest ws a (suc k) (choose t (lowestFrom k (suc a) ws) a)
-    step false e s = record { from = omega arith; to = omega arith; below = λ b g l. absurd (omega arith); free = λ l. e }
-    step true e s =
+    step : (t : Bool) → p a ≡ t → First p k (suc a) (firstFrom p k (suc a)) → First p (suc k) a (choose t a (firstFrom p k (suc a)))
+    step true e s = record { from = omega arith; to = omega arith; before = λ b g l. absurd (omega arith); here = λ l. e }
+    step false e s =
         record {
           from = omega (arith, s .from);
           to = omega (arith, s .to);
-          below = λ b g l. ⊎-elim (λ q. ap (used ws) (sym q) ∙ e) (λ m. s .below b m l) (eq-or-lt-of-le g);
-          free = λ l. s .free (omega arith);
+          before = λ b g l. ⊎-elim (λ q. ap p (sym q) ∙ e) (λ m. s .before b m l) (eq-or-lt-of-le g);
+          here = λ l. s .here (omega arith);
         }
+
+-- ---- the lowest free address is the smallest that is not in use
+
+abbrev pub free : List ℕ → ℕ → Bool
+free ws a = not (used ws a)
+
+pub lowest-first : (ws : List ℕ) (k a : ℕ) → lowestFrom k a ws ≡ firstFrom (free ws) k a
+unfolding lowestFrom firstFrom
+lowest-first ws zero a = refl
+lowest-first ws (suc k) a = step (used ws a) (lowest-first ws k (suc a))
+  where
+    step : (t : Bool) → lowestFrom k (suc a) ws ≡ firstFrom (free ws) k (suc a) → choose t (lowestFrom k (suc a) ws) a ≡ choose (not t) a (firstFrom (free ws) k (suc a))
+    step true e = e
+    step false e = refl
+
+pub lowest-is : (ws : List ℕ) → First (free ws) addresses 0 (lowestFrom addresses 0 ws)
+lowest-is ws = rw (lowest-first ws addresses 0) (first-is (free ws) addresses 0)
+
+pub lowest-only : (ws : List ℕ) (r : ℕ) → First (free ws) addresses 0 r → lowestFrom addresses 0 ws ≡ r
+lowest-only ws r f = lowest-first ws addresses 0 ∙ first-only (free ws) addresses 0 r f
+
+-- ---- the next address in use
+
+pub next-only : (ws : List ℕ) (a r : ℕ) → First (used ws) (addresses - a) a r → nextUsed ws a ≡ r
+unfolding nextUsed
+next-only ws a r f = first-only (used ws) (addresses - a) a r f
+
+pub next-is : (ws : List ℕ) (a : ℕ) → First (used ws) (addresses - a) a (nextUsed ws a)
+unfolding nextUsed
+next-is ws a = first-is (used ws) (addresses - a) a

@@ -1,16 +1,16 @@
--- A word's ones are its marks that are set, and the trailing zeros of its complement are its marks that are set before the first that is not:
--- by induction on the digits. Assumes nothing.
+-- A word's ones are its marks that are set, and its trailing zeros stand before the first of them: by induction on the digits. Assumes nothing.
 use mathlib.Core.Path.{_≡_, refl, sym, ap, ap₂, _∙_}
 use mathlib.Core.Bool.{Bool, true, false}
 use mathlib.Core.List.{List}
+use mathlib.Core.Logic.{_⊎_, inl, inr, ⊎-elim}
 use Prim.Native.Nat.{ℕ, zero, suc, _+_, _-_, _*_, _/_, _%_, _^_, _≤_, _<_}
-use native.Mathlib.Nat.{pow-suc, mod-lt, mod-eq-of-lt, mod-one, div-one, zero-div}
+use native.Mathlib.Nat.{pow-suc, mod-lt, mod-eq-of-lt, mod-one, div-one, zero-div, div-eq-of-lt, lt-of-lt-of-le}
 use native.Mathlib.Omega.{arith}
 use lib.Count.{ones, ones-cat, trailingZeros, under}
 use borrow.Author.Tests.{ltb-true, ltb-false}
 use lib.Dec.{eqb, ltb, lit<}
 use lib.ListN.{length, getD, List·getD-eq-default}
-use lib.Pow.{pow-pos, mod-pow-add, shr-shr, shl-exact}
+use lib.Pow.{pow-pos, pow-mono, mod-pow-add, shr-shr, shl-exact}
 use Rattle.refusal.specs.Refusal.{choose}
 use Rattle.state.specs.Marks.{used, countBelow}
 
@@ -64,49 +64,98 @@ count-word ws q h =
     let e : (q + 1) * 64 ≡ q * 64 + 64 = omega arith in
     ap (λ (n : ℕ). countBelow n ws) e ∙ count-digits ws q 64 (omega arith) ∙ ap (λ (n : ℕ). countBelow (q * 64) ws + ones n) (mod-eq-of-lt h)
 
--- t is the place of the first of n's k digits that is 0, or k
-pub record FirstZero (k n t : ℕ) : Type 0 where
-  pub below : (j : ℕ) → j < t → n / 2 ^ j % 2 ≡ 1
-  pub zero : t < k → n / 2 ^ t % 2 ≡ 0
-
 digit-suc : (n j : ℕ) → n / 2 ^ suc j % 2 ≡ n / 2 / 2 ^ j % 2
 digit-suc n j = let e : suc j ≡ 1 + j = omega arith in ap (λ (x : ℕ). x % 2) (ap (λ (i : ℕ). n / 2 ^ i) e ∙ sym (shr-shr n 1 j))
 
-here : (n : ℕ) → n / 2 ^ 0 % 2 ≡ n % 2
-here n = rw (div-one n)
+digit-zero : (n : ℕ) → n / 2 ^ 0 % 2 ≡ n % 2
+digit-zero n = rw (div-one n)
 
-first-more : (k n t d e : ℕ) → n % 2 ≡ d → e + d ≡ 1 → FirstZero k (n / 2) t → FirstZero (suc k) n (under e t)
-first-more k n t zero zero m s f = absurd (omega arith)
-first-more k n t zero (suc e) m s f = record { below = λ j h. absurd (omega arith); zero = λ h. here n ∙ m }
-first-more k n t (suc d) (suc e) m s f = absurd (omega arith)
-first-more k n t (suc d) zero m s f =
-    record {
-      below = λ j h. ones-to j h;
-      zero = λ h. digit-suc n t ∙ f .zero (omega arith);
-    }
+-- t is the place of the first of n's k digits that is 1, or k
+pub record FirstOne (k n t : ℕ) : Type 0 where
+  pub below : (j : ℕ) → j < t → n / 2 ^ j % 2 ≡ 0
+  pub one : t < k → n / 2 ^ t % 2 ≡ 1
+
+first-more : (k n t d : ℕ) → n % 2 ≡ d → d < 2 → FirstOne k (n / 2) t → FirstOne (suc k) n (under d t)
+first-more k n t (suc (suc d)) m h f = absurd (omega arith)
+first-more k n t (suc zero) m h f = record { below = λ j g. absurd (omega arith); one = λ g. digit-zero n ∙ m }
+first-more k n t zero m h f = record { below = zeros; one = λ g. digit-suc n t ∙ f .one (omega arith) }
   where
-    ones-to : (j : ℕ) → j < suc t → n / 2 ^ j % 2 ≡ 1
-    ones-to zero h = here n ∙ m ∙ omega arith
-    ones-to (suc j) h = digit-suc n j ∙ f .below j (omega arith)
+    zeros : (j : ℕ) → j < suc t → n / 2 ^ j % 2 ≡ 0
+    zeros zero g = digit-zero n ∙ m
+    zeros (suc j) g = digit-suc n j ∙ f .below j (omega arith)
 
-pub first-zero : (k n : ℕ) → n < 2 ^ k → FirstZero k n (trailingZeros k ((2 ^ k - 1) - n))
+pub first-one : (k n : ℕ) → FirstOne k n (trailingZeros k n)
 unfolding trailingZeros
-first-zero zero n h = record { below = λ j g. absurd (omega arith); zero = λ g. absurd (omega arith) }
-first-zero (suc k) n h =
-    let p : 2 ^ suc k ≡ 2 ^ k * 2 = pow-suc 2 k in
-    let half : ((2 ^ suc k - 1) - n) / 2 ≡ (2 ^ k - 1) - n / 2 = omega arith in
-    let low : ((2 ^ suc k - 1) - n) % 2 + n % 2 ≡ 1 = omega arith in
-    let b : n / 2 < 2 ^ k = omega arith in
-    first-more k n _ (n % 2) (((2 ^ suc k - 1) - n) % 2) refl low (rw half (first-zero k (n / 2) b))
+first-one zero n = record { below = λ j g. absurd (omega arith); one = λ g. absurd (omega arith) }
+first-one (suc k) n = first-more k n (trailingZeros k (n / 2)) (n % 2) refl (omega arith) (first-one k (n / 2))
 
--- where every address before word q is in use, and the word's first t digits are set, every address before 64 q + t is
-pub used-upto : (ws : List ℕ) (q t : ℕ) → ((b : ℕ) → b < q * 64 → used ws b ≡ true) → FirstZero 64 (getD ws q 0) t → t ≤ 64
-    → (b : ℕ) → b < q * 64 + t → used ws b ≡ true
-used-upto ws q t h f l b g = side (ltb b (q * 64)) refl
+-- a digit of a number of k digits, and that of its complement
+pub digit-not : (k n j : ℕ) → n < 2 ^ k → j < k → ((2 ^ k - 1) - n) / 2 ^ j % 2 + n / 2 ^ j % 2 ≡ 1
+digit-not zero n j h g = absurd (omega arith)
+digit-not (suc k) n zero h g =
+    let p : 2 ^ suc k ≡ 2 ^ k * 2 = pow-suc 2 k in
+    rw (digit-zero n, digit-zero ((2 ^ suc k - 1) - n)) (omega arith)
+digit-not (suc k) n (suc j) h g =
+    let p : 2 ^ suc k ≡ 2 ^ k * 2 = pow-suc 2 k in
+    let e : ((2 ^ suc k - 1) - n) / 2 ≡ (2 ^ k - 1) - n / 2 = omega arith in
+    rw (digit-suc n j, digit-suc ((2 ^ suc k - 1) - n) j, e) (digit-not k (n / 2) j (omega arith) (omega arith))
+
+below-or-not : (a b : ℕ) → (a < b) ⊎ (b ≤ a)
+below-or-not a b = side (ltb a b) refl
   where
-    side : (s : Bool) → ltb b (q * 64) ≡ s → used ws b ≡ true
-    side true e = h b (ltb-true b (q * 64) e)
-    side false e =
-        let o : q * 64 ≤ b = ltb-false b (q * 64) e in
-        let p : b ≡ q * 64 + (b - q * 64) = omega arith in
-        ap (used ws) p ∙ used-digit ws q (b - q * 64) (omega arith) ∙ ap (λ (d : ℕ). eqb d 1) (f .below (b - q * 64) (omega arith))
+    side : (t : Bool) → ltb a b ≡ t → (a < b) ⊎ (b ≤ a)
+    side true e = inl (ltb-true a b e)
+    side false e = inr (ltb-false a b e)
+
+-- a number of k digits has no digit 1 past them
+digit-past : (k n j : ℕ) → n < 2 ^ k → n / 2 ^ j % 2 ≡ 1 → j < k
+digit-past k n j h e = ⊎-elim (λ l. l) (λ l. let z : n / 2 ^ j ≡ 0 = div-eq-of-lt (lt-of-lt-of-le h (pow-mono l)) in absurd (omega arith)) (below-or-not j k)
+
+-- what holds of every address from a on below m, and from m on below n, holds of every one from a on below n
+pub onwards : {P : ℕ → Type 0} {a : ℕ} (m n : ℕ) → ((b : ℕ) → a ≤ b → b < m → P b) → ((b : ℕ) → m ≤ b → b < n → P b) → (b : ℕ) → a ≤ b → b < n → P b
+onwards m n f g b h l = ⊎-elim (f b h) (λ k. g b k l) (below-or-not b m)
+
+-- ---- a word from its digit s on
+
+module _ (ws : List ℕ) (q s : ℕ) (l : s < 64) where
+  abbrev rest : ℕ
+  rest = getD ws q 0 / 2 ^ s
+
+  used-rest : (j : ℕ) → s + j < 64 → used ws (q * 64 + s + j) ≡ eqb (rest / 2 ^ j % 2) 1
+  used-rest j h =
+      let e : q * 64 + s + j ≡ q * 64 + (s + j) = omega arith in
+      ap (used ws) e ∙ used-digit ws q (s + j) h ∙ ap (λ (x : ℕ). eqb (x % 2) 1) (sym (shr-shr (getD ws q 0) s j))
+
+  -- before its first one no address is in use; at its first one the address is
+  pub gap : (t : ℕ) → FirstOne 64 rest t → (b : ℕ) → q * 64 + s ≤ b → b < q * 64 + s + t → b < q * 64 + 64 → used ws b ≡ false
+  gap t f b h g k =
+      let e : b ≡ q * 64 + s + (b - (q * 64 + s)) = omega arith in
+      ap (used ws) e ∙ used-rest (b - (q * 64 + s)) (omega arith) ∙ ap (λ (d : ℕ). eqb d 1) (f .below (b - (q * 64 + s)) (omega arith))
+
+  pub found : (t : ℕ) → getD ws q 0 < 2 ^ 64 → FirstOne 64 rest t → t < 64 → (s + t < 64) × (used ws (q * 64 + s + t) ≡ true)
+  found t w f h =
+      let p : s + t < 64 = digit-past 64 (getD ws q 0) (s + t) w (ap (λ (x : ℕ). x % 2) (sym (shr-shr (getD ws q 0) s t)) ∙ f .one h) in
+      (p, used-rest t p ∙ ap (λ (d : ℕ). eqb d 1) (f .one h))
+
+-- ---- a whole word
+
+module _ (ws : List ℕ) (q : ℕ) where
+  pub word-gap : (t : ℕ) → FirstOne 64 (getD ws q 0) t → t ≤ 64 → (b : ℕ) → q * 64 ≤ b → b < q * 64 + t → used ws b ≡ false
+  word-gap t f k b h g =
+      let e : b ≡ q * 64 + (b - q * 64) = omega arith in
+      ap (used ws) e ∙ used-digit ws q (b - q * 64) (omega arith) ∙ ap (λ (d : ℕ). eqb d 1) (f .below (b - q * 64) (omega arith))
+
+  pub word-found : (t : ℕ) → FirstOne 64 (getD ws q 0) t → t < 64 → used ws (q * 64 + t) ≡ true
+  word-found t f h = used-digit ws q t h ∙ ap (λ (d : ℕ). eqb d 1) (f .one h)
+
+  -- its first zero is the first one of its complement
+  pub full-gap : (t : ℕ) → getD ws q 0 < 2 ^ 64 → FirstOne 64 ((2 ^ 64 - 1) - getD ws q 0) t → t ≤ 64 → (b : ℕ) → q * 64 ≤ b → b < q * 64 + t → used ws b ≡ true
+  full-gap t w f k b h g =
+      let e : b ≡ q * 64 + (b - q * 64) = omega arith in
+      let d : getD ws q 0 / 2 ^ (b - q * 64) % 2 ≡ 1 = omega (arith, digit-not 64 (getD ws q 0) (b - q * 64) w (omega arith), f .below (b - q * 64) (omega arith)) in
+      ap (used ws) e ∙ used-digit ws q (b - q * 64) (omega arith) ∙ ap (λ (x : ℕ). eqb x 1) d
+
+  pub full-found : (t : ℕ) → getD ws q 0 < 2 ^ 64 → FirstOne 64 ((2 ^ 64 - 1) - getD ws q 0) t → t < 64 → used ws (q * 64 + t) ≡ false
+  full-found t w f h =
+      let d : getD ws q 0 / 2 ^ t % 2 ≡ 0 = omega (arith, digit-not 64 (getD ws q 0) t w h, f .one h) in
+      used-digit ws q t h ∙ ap (λ (x : ℕ). eqb x 1) d

@@ -1,8 +1,10 @@
 // The marks of addresses in use: sixteen 64-bit words by value. The mark of address a is digit a % 64 of word a / 64.
 use state::State;
 ghost use mathlib.Core.Path.{_≡_};
+ghost use Prim.Native.Nat.{_*_, _≤_};
 ghost use Rattle.state.specs.Sizes.{addresses};
 ghost use Rattle.state.specs.Marks.{used, marked, unmarked, countOf, lowestFrom};
+ghost use Rattle.marks.specs.Next.{nextUsed};
 
 // Is the address in use; no address past the last is.
 pub fn used(marks: [u64; State::WORDS], a: usize) -> bool
@@ -56,13 +58,44 @@ pub fn count(marks: [u64; State::WORDS]) -> u32
 pub fn lowest(marks: [u64; State::WORDS]) -> usize
     ensures { λ r. ⌜ r ≡ lowestFrom addresses 0 marks ⌝ }
 {
-    let mut i: usize = 0;
-    while i < State::WORDS {
-        let t = u64::trailing_zeros(!marks[i]);
+    let mut q: usize = 0;
+    while q < State::WORDS {
+        let t = u64::trailing_zeros(!marks[q]);
         if t < 64 {
-            return i * 64 + t as usize;
+            return q * 64 + t as usize;
         }
-        i += 1;
+        q += 1;
     }
     State::ADDRESSES
+}
+
+// The smallest address in use from word q on, or where the addresses end: a word's first one stands after its trailing zeros.
+fn next_from(marks: [u64; State::WORDS], q: usize) -> usize
+    requires { ⌜ q ≤ 16 ⌝ }
+    ensures { λ r. ⌜ r ≡ nextUsed marks (q * 64) ⌝ }
+{
+    let mut k = q;
+    while k < State::WORDS {
+        let t = u64::trailing_zeros(marks[k]);
+        if t < 64 {
+            return k * 64 + t as usize;
+        }
+        k += 1;
+    }
+    State::ADDRESSES
+}
+
+// The smallest address in use from a on, or where the addresses end.
+pub fn next_used(marks: [u64; State::WORDS], a: usize) -> usize
+    ensures { λ r. ⌜ r ≡ nextUsed marks a ⌝ }
+{
+    let q = a / 64;
+    if q >= State::WORDS {
+        return a;
+    }
+    let t = u64::trailing_zeros(marks[q] >> (a % 64));
+    if t < 64 {
+        return a + t as usize;
+    }
+    next_from(marks, q + 1)
 }

@@ -67,12 +67,12 @@ pub fn with_tag(h: Hash, t: [u8; State::KEY]) -> Hash
 fn same_tag(s: [u8; State::KEY], t: [u8; State::KEY]) -> bool
     ensures { λ r. ⌜ r ≡ same s t ⌝ }
 {
-    let mut i: usize = 0;
-    while i < State::KEY {
-        if s[i] != t[i] {
+    let mut k: usize = 0;
+    while k < State::KEY {
+        if s[k] != t[k] {
             return false;
         }
-        i += 1;
+        k += 1;
     }
     true
 }

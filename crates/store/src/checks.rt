@@ -15,12 +15,10 @@ pub fn take_all(s: State, store: &[u8]) -> State
 {
     let m = s.marks;
     let mut r = s;
-    let mut a: usize = 0;
+    let mut a = marks::next_used(m, 0);
     while a < State::ADDRESSES {
-        if marks::used(m, a) {
-            r = crate::moves::take(r, store, a);
-        }
-        a += 1;
+        r = crate::moves::take(r, store, a);
+        a = marks::next_used(m, a + 1);
     }
     r
 }
@@ -57,13 +55,11 @@ pub fn put_all(s: State, store: &mut [u8]) -> State
 {
     let m = s.marks;
     let mut r = opened(s);
-    let mut a: usize = 0;
+    let mut a = marks::next_used(m, 0);
     while a < State::ADDRESSES {
-        if marks::used(m, a) {
-            let v = crate::cells::value_at(store, a);
-            r = crate::moves::put_entry(r, store, a, v, 1);
-        }
-        a += 1;
+        let v = crate::cells::value_at(store, a);
+        r = crate::moves::put_entry(r, store, a, v, 1);
+        a = marks::next_used(m, a + 1);
     }
     r
 }

@@ -12,15 +12,15 @@ use Rattle.multiset.proofs.same_tag.Statement.{statement}
 use Rattle.multiset.proofs.same_tag.Tie as tie
 
 abbrev Inv-loop : tie.InvT-loop
-Inv-loop s t i₀ i = (i ≤ 32) × ((k : ℕ) → k < i → getD s k 0 ≡ getD t k 0)
+Inv-loop s t k₀ k = (k ≤ 32) × ((i : ℕ) → i < k → getD s i 0 ≡ getD t i 0)
 
 abbrev μ-loop : tie.MeasureT-loop
-μ-loop s t i₀ i = 32 - i
+μ-loop s t k₀ k = 32 - k
 
 returns : tie.Need-returns Inv-loop μ-loop
 returns c =
     let x = c .before .before .before .args in
-    sym (same-other (x .t1) (x .t2) (λ e. c .if1 .taken (ap (λ l. getD l (c .before .before .loop .i) 0) e)))
+    sym (same-other (x .t1) (x .t2) (λ e. c .if1 .taken (ap (λ l. getD l (c .before .before .loop .k) 0) e)))
 
 loop-again : tie.Need-loop-again Inv-loop μ-loop
 loop-again c = (omega arith, below-more _ _ (c .before .before .loop .inv .1) (c .if1 .left))
