@@ -1,6 +1,6 @@
 -- `same` is equality: by induction on the lists. Assumes nothing.
 use borrow.Author.Tests.{eqb-true, eq-eqb}
-use mathlib.Core.Path.{_≡_, refl, ap₂, _∙_}
+use mathlib.Core.Path.{_≡_, refl, ap₂}
 use mathlib.Core.Bool.{Bool, true, false, _&&_}
 use mathlib.Core.List.{List, [], _∷_}
 use Prim.Native.Nat.{ℕ}

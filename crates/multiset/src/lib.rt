@@ -2,7 +2,6 @@
 use state::Hash;
 use state::State;
 ghost use mathlib.Core.Path.{_≡_};
-ghost use lib.ListN.{length};
 ghost use Prim.Native.Nat.{_+_};
 ghost use Rattle.octets.specs.Places.{xor};
 ghost use Rattle.state.specs.Sizes.{width};

@@ -5,9 +5,9 @@ use mathlib.Core.Bool.{Bool, true, _||_, or-true, or-false}
 use mathlib.Core.List.{List}
 use Prim.Native.Nat.{ℕ, _≤_, _<_}
 use lib.Dec.{ltb}
-use Rattle.state.specs.Cells.{Entry}
+use Rattle.state.specs.Cells.{Entry, entry, valueAt, stampAt, entryAt}
 use Rattle.state.specs.Multiset.{withTag}
-use Rattle.state.specs.Step.{Seen, seen, takeEntry, putEntry}
+use Rattle.state.specs.Step.{seen, takeEntry, putEntry}
 use Rattle.state.specs.declared.State.{State}
 use Rattle.state.specs.declared.Hash.{Hash}
 use Rattle.state.specs.declared.Verdict.the-variants.{Nothing}
@@ -20,25 +20,29 @@ abbrev pub withPut : State → Hash → ℕ → State
 withPut s h t = record { key = s .key; put = h; take = s .take; clock = t; fault = s .fault; closed = s .closed; marks = s .marks }
 
 -- a stamp above the clock, and one that is not
-pub fault-marked : (f : Bool) (c t u : ℕ) → c < t → t ≡ u → true ≡ (f || ltb c u)
-fault-marked f c t u h e = rw (← e, lt-ltb c t h) (sym (or-true f))
+pub fault-marked : (f : Bool) (c t : ℕ) → c < t → true ≡ (f || ltb c t)
+fault-marked f c t h = rw (lt-ltb c t h) (sym (or-true f))
 
-pub fault-kept : (f : Bool) (c t u : ℕ) → t ≤ c → t ≡ u → f ≡ (f || ltb c u)
-fault-kept f c t u h e = rw (← e, le-ltb c t h) (sym (or-false f))
+pub fault-kept : (f : Bool) (c t : ℕ) → t ≤ c → f ≡ (f || ltb c t)
+fault-kept f c t h = rw (le-ltb c t h) (sym (or-false f))
 
-module _ (tag : List ℕ → Entry → List ℕ) (s : State) (e : Entry) where
-  pub taken-is : {h : Hash} {f : Bool} → h ≡ withTag (s .take) (tag (s .key) e) → f ≡ (s .fault || ltb (s .clock) (e .stamp)) → withTake s h f ≡ takeEntry tag s e
-  unfolding takeEntry
-  taken-is p q = ap₂ (withTake s) p q
+module _ (w : ℕ) (tag : List ℕ → Entry → List ℕ) (s : State) (m : List ℕ) (a : ℕ) where
+  -- a take, by its parts: the new hash h, the tag k, the value v and the stamp t read, the new fault mark f
+  pub take-is : {h : Hash} {k v : List ℕ} {t : ℕ} {f : Bool} → h ≡ withTag (s .take) k → k ≡ tag (s .key) (entry a v t) → v ≡ valueAt w m a → t ≡ stampAt w m a
+      → f ≡ (s .fault || ltb (s .clock) t) → withTake s h f ≡ takeEntry tag s (entryAt w m a)
+  unfolding takeEntry entryAt
+  take-is p q r u g =
+      ap₂ (withTake s) (p ∙ ap (withTag (s .take)) (q ∙ ap₂ (λ v t. tag (s .key) (entry a v t)) r u)) (g ∙ ap (λ t. s .fault || ltb (s .clock) t) u)
 
-  pub put-is : {h : Hash} → h ≡ withTag (s .put) (tag (s .key) e) → withPut s h (e .stamp) ≡ putEntry tag s e
-  unfolding putEntry
-  put-is p = ap (λ (h : Hash). withPut s h (e .stamp)) p
-
-  -- a take keeps the clock
-  pub take-clock : {t : State} → t ≡ takeEntry tag s e → t .clock ≡ s .clock
+  -- it keeps the clock
+  pub take-clock : {t : State} → t ≡ takeEntry tag s (entryAt w m a) → t .clock ≡ s .clock
   unfolding takeEntry
   take-clock p = ap (λ (t : State). t .clock) p
+
+-- a put, by the new hash h and the tag k
+pub put-is : (tag : List ℕ → Entry → List ℕ) (s : State) (e : Entry) {h : Hash} {k : List ℕ} → h ≡ withTag (s .put) k → k ≡ tag (s .key) e → withPut s h (e .stamp) ≡ putEntry tag s e
+unfolding putEntry
+put-is tag s e p q = ap (λ (h : Hash). withPut s h (e .stamp)) (p ∙ ap (withTag (s .put)) q)
 
 -- what is seen of a call that is done
 pub same-seen : {s t : State} {m n o q : List ℕ} → s ≡ t → m ≡ n → o ≡ q → seen 0 Nothing s m o ≡ seen 0 Nothing t n q

@@ -1,13 +1,11 @@
 -- `marks::next_from` meets its contract: no address from word q on below 64 k is in use, until a word has a one. Assumes nothing.
 use borrow.Author.Needs.{needs}
-use mathlib.Core.Path.{_≡_, sym, ap, _∙_}
+use mathlib.Core.Path.{_≡_, sym}
 use mathlib.Core.Bool.{false}
-use Prim.Native.Nat.{ℕ, _+_, _-_, _*_, _≤_, _<_}
+use Prim.Native.Nat.{ℕ, _-_, _*_, _≤_, _<_}
 use native.Mathlib.Omega.{arith}
 use lib.Count.{trailing-le}
 use lib.ListN.{getD}
-use mir.Syntax.{w64}
-use mir.Val.{Fits}
 use Rattle.state.specs.Sizes.{addresses}
 use Rattle.state.specs.Marks.{used}
 use Rattle.marks.proofs.Words.{first-one, onwards, word-gap, word-found}

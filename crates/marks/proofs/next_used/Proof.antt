@@ -1,14 +1,12 @@
 -- `marks::next_used` meets its contract: by the rest of the address's word, and then by the words after it. Assumes nothing.
 use borrow.Author.Needs.{needs}
-use mathlib.Core.Path.{_≡_, sym, ap, _∙_}
+use mathlib.Core.Path.{_≡_, sym, _∙_}
 use Prim.Native.Nat.{ℕ, _+_, _*_, _/_, _%_, _^_}
 use native.Mathlib.Omega.{arith}
-use lib.Count.{trailing-le}
 use lib.ListN.{getD}
 use mir.Syntax.{w64}
 use mir.Val.{Fits}
 use Rattle.state.specs.Sizes.{addresses}
-use Rattle.state.specs.Marks.{used}
 use Rattle.marks.proofs.Words.{first-one, onwards, gap, found}
 use Rattle.marks.proofs.Sets.{next-only, next-is}
 use Rattle.marks.proofs.next_used.Statement.{statement}

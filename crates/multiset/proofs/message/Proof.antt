@@ -1,14 +1,13 @@
 -- `multiset::message` meets its contract: its first three bytes compute, and a value and a stamp follow them. Assumes nothing.
 use borrow.Author.Needs.{needs}
 use mathlib.Core.Path.{_≡_, refl, ap, sym, _∙_}
-use mathlib.Core.List.{List, [], _∷_, _++_}
+use mathlib.Core.List.{List, [], _∷_}
 use Prim.Native.Nat.{ℕ, _/_, _%_}
 use native.Mathlib.Omega.{arith}
-use lib.ListN.{length, set, replicate}
+use lib.ListN.{length, replicate}
 use mir.Syntax.{w16}
 use mir.Val.{Fits}
 use Rattle.lent.proofs.Copied.{copied-all}
-use Rattle.octets.specs.Layout.{bytes}
 use Rattle.octets.proofs.Layouts.{bytes-2}
 use Rattle.state.specs.Multiset.{message}
 use Rattle.state.proofs.Cells.{stamp-filled}

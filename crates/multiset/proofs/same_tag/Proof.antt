@@ -6,7 +6,6 @@ use Prim.Native.Nat.{ℕ, _-_, _≤_, _<_}
 use native.Mathlib.Omega.{arith}
 use lib.ListN.{length, getD}
 use lib.Seq.{ext-getD}
-use Rattle.state.specs.Multiset.{same}
 use Rattle.multiset.proofs.Hashes.{same-self, same-other}
 use Rattle.multiset.proofs.same_tag.Statement.{statement}
 use Rattle.multiset.proofs.same_tag.Tie as tie

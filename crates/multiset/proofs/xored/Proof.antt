@@ -1,12 +1,12 @@
 -- `multiset::xored` meets its contract: a turn fills one place of the table more. Assumes nothing.
 use borrow.Author.Needs.{needs}
-use mathlib.Core.Path.{_≡_, refl, ap, sym, _∙_}
+use mathlib.Core.Path.{_≡_, refl, ap, _∙_}
 use mathlib.Core.List.{List, _++_}
 use Prim.Native.Nat.{ℕ, _-_, _≤_}
 use native.Mathlib.Omega.{arith}
 use lib.Bits.{bitXor}
 use lib.ListN.{length, getD, set, drop, replicate}
-use Rattle.octets.specs.Places.{tabulate, xor}
+use Rattle.octets.specs.Places.{tabulate}
 use Rattle.octets.proofs.Places.{fill-step, fill-end, tabulate-xor}
 use Rattle.multiset.proofs.xored.Statement.{statement}
 use Rattle.multiset.proofs.xored.Tie as tie

@@ -1,11 +1,8 @@
 -- `store::lowest_free` meets its contract: row 9 is tested. Assumes nothing.
 use borrow.Author.Needs.{needs}
 use borrow.Author.Tests.{eq-eqb, ne-eqb}
-use mathlib.Core.Path.{_≡_, sym, ap, _∙_}
-use mathlib.Core.Bool.{true, false}
-use lib.Dec.{eqb}
+use mathlib.Core.Path.{sym, _∙_}
 use Rattle.state.specs.Sizes.{addresses}
-use Rattle.state.specs.Marks.{lowestFrom}
 use Rattle.state.specs.Moves.{lowestOf}
 use Rattle.store.proofs.lowest_free.Statement.{statement}
 use Rattle.store.proofs.lowest_free.Tie as tie

@@ -1,10 +1,10 @@
 -- `store::cells::fill` meets its contract: the value is copied over the first bytes, and the stamp follows. Assumes nothing.
 use borrow.Author.Needs.{needs}
-use mathlib.Core.Path.{_≡_, sym, ap, _∙_}
+use mathlib.Core.Path.{_≡_, _∙_}
 use mathlib.Core.List.{List, _++_}
-use Prim.Native.Nat.{ℕ, _-_, _/_, _%_}
+use Prim.Native.Nat.{ℕ}
 use native.Mathlib.Omega.{arith}
-use lib.ListN.{length, set, drop, length-set, length-drop, length-append}
+use lib.ListN.{length, drop, length-set, length-drop}
 use lib.Seq.{take-all}
 use mir.Syntax.{w16}
 use mir.Val.{Fits}

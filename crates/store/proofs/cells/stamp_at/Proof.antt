@@ -1,7 +1,7 @@
 -- `store::cells::stamp_at` meets its contract: the two bytes after the value, most significant first. Assumes nothing.
 use borrow.Author.Needs.{needs}
 use mathlib.Core.Path.{sym}
-use Prim.Native.Nat.{ℕ, _+_, _*_}
+use Prim.Native.Nat.{_+_, _*_}
 use native.Mathlib.Omega.{arith}
 use Rattle.state.specs.Sizes.{addresses, valueSize, cellSize, storeSize}
 use Rattle.state.specs.Cells.{stampAt}

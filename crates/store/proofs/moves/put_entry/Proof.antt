@@ -1,9 +1,7 @@
 -- `store::moves::put_entry` meets its contract: the entry is written and hashed. Assumes nothing.
 use borrow.Author.Needs.{needs}
-use mathlib.Core.Path.{ap, _∙_}
 use Rattle.state.specs.Sizes.{addresses}
 use Rattle.state.specs.Cells.{entry, writeEntry}
-use Rattle.state.specs.Multiset.{withTag}
 use Rattle.multiset.specs.Tag.{tag}
 use Rattle.store.proofs.Fields.{put-is}
 use Rattle.store.proofs.moves.put_entry.Statement.{statement}
@@ -14,7 +12,7 @@ unfolding writeEntry
 returns c =
     let b = c .before .before .before .before .before .before in
     let x = b .before .before .before .args in
-    (put-is tag (x .s) (entry (x .a) (x .value) (x .stamp)) (c .with-tag .ensures ∙ ap (withTag (x .s .put)) (c .before .tag .ensures)), b .write .ensures)
+    (put-is tag (x .s) (entry (x .a) (x .value) (x .stamp)) (c .with-tag .ensures) (c .before .tag .ensures), b .write .ensures)
 
 pub put-entry-spec : {M : Type 1} → statement M
 unfolding addresses

@@ -9,8 +9,12 @@ use Rattle.store.proofs.refusals.use_of.Tie as tie
 returns : tie.Need-returns
 unfolding useRows addresses valueSize cellSize storeSize ceiling
 returns c =
-    let x = c .before .before .before .before .before .before .before .before .before .before .before .args in
-    rw (c .row6 .ensures, c .before .before .row5 .ensures, c .before .before .before .used .ensures, c .before .before .before .before .row4 .ensures, c .before .before .before .before .before .row3 .ensures, c .before .before .before .before .before .before .row2 .ensures, c .before .before .before .before .before .before .before .row .ensures) (rows-first (useRows 2 (x .s) (x .store .now) (x .a) (x .buffer .now)) tt)
+    let k = c .before .before in
+    let j = k .before .before in
+    let i = j .before .before in
+    let x = i .before .before .before .before .before .args in
+    rw (c .row6 .ensures, k .row5 .ensures, k .before .used .ensures, j .row4 .ensures, j .before .row3 .ensures, i .row2 .ensures, i .before .row .ensures)
+    (rows-first (useRows 2 (x .s) (x .store .now) (x .a) (x .buffer .now)) tt)
 
 pub use-of-spec : {M : Type 1} → statement M
 use-of-spec = tie.close (tie.spec (λ c κs. search needs) (λ c κs. search needs) (λ c κs. search needs) (λ c κs. search needs) (λ c κs. search needs) (λ c κs. search needs) (λ c κs. search needs) returns)
