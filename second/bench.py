@@ -1,187 +1,190 @@
-"""The bench, a second time: written from the rules (docs/RULES.md) alone, with Python's own SHA-256 and HMAC.
+#!/usr/bin/env python3
+"""What the bench program must print for the session on standard input.
 
-    bench.py < SESSION      prints what the bench program must print
-
-Nothing here is shared with the proved code: it is what that code is held against.
+Written from document 01 alone, with Python's own SHA-256 and HMAC. It shares nothing with the program that it is held against.
 """
-import hashlib
 import hmac
 import re
 import sys
 
+LIMIT = 4096
 ADDRESSES = 1024
 VALUE = 28
-CELL = 30
+CELL = VALUE + 2
 CEILING = 65535
-LIMIT = 4096
+KEY = bytes(32)
 
-DECIMAL = rb"(0|[1-9][0-9]{0,4})"
-HEX = rb"([0-9a-f]{2})"
+NUMBER = rb"(0|[1-9][0-9]{0,4})"
+BYTE = rb"([0-9a-f]{2})"
 LINES = {
-    "add": re.compile(rb"add " + DECIMAL + rb" " + HEX),
-    "store": re.compile(rb"store " + DECIMAL + rb" " + HEX),
-    "load": re.compile(rb"load " + DECIMAL),
-    "remove": re.compile(rb"remove " + DECIMAL),
-    "check": re.compile(rb"check"),
-    "spoil": re.compile(rb"spoil " + DECIMAL + rb" " + HEX + rb" " + DECIMAL),
+    name: re.compile(rb" ".join([name.encode()] + words))
+    for name, words in {
+        "add": [NUMBER, BYTE],
+        "store": [NUMBER, BYTE],
+        "load": [NUMBER],
+        "remove": [NUMBER],
+        "check": [],
+        "spoil": [NUMBER, BYTE, NUMBER],
+    }.items()
 }
 
 
-class MultisetHash:
-    """The exclusive-or of the tags, and how many there are modulo 2^32."""
+def parse(line):
+    """The name and the arguments of a line, or None where the line is bad."""
+    for name, form in LINES.items():
+        found = form.fullmatch(line)
+        if found is None:
+            continue
+        words = found.groups()
+        arguments = [int(w, 16) if k == 1 else int(w) for k, w in enumerate(words)]
+        if any(n > 65535 for n in arguments):
+            return None
+        return name, arguments
+    return None
 
-    def __init__(self):
-        self.tag = 0
-        self.number = 0
 
-    def include(self, tag):
-        self.tag ^= int.from_bytes(tag, "big")
+def lines_of(data):
+    """The lines of an input: after a last newline there is no further line."""
+    parts = data.split(b"\n")
+    if parts[-1] == b"":
+        parts.pop()
+    return parts
+
+
+class Multiset:
+    """The hash of a multiset of entries: the exclusive-or of their tags, and their number modulo 2^32."""
+
+    def __init__(self, tag=0, number=0):
+        self.tag = tag
+        self.number = number
+
+    def insert(self, address, value, stamp):
+        message = b"\x01" + address.to_bytes(2, "big") + value + stamp.to_bytes(2, "big")
+        self.tag ^= int.from_bytes(hmac.digest(KEY, message, "sha256"), "big")
         self.number = (self.number + 1) % 2**32
 
     def __eq__(self, other):
-        return (self.tag, self.number) == (other.tag, other.number)
+        return self.tag == other.tag and self.number == other.number
+
+    def copy(self):
+        return Multiset(self.tag, self.number)
 
 
-class Checker:
-    """The trusted state, and the store beside it."""
+class Bench:
+    """The trusted state beside the store that nobody trusts. Each call gives what its line prints after its name."""
 
-    def __init__(self, key):
-        self.key = key
-        self.store = bytearray(ADDRESSES * CELL)
-        self.used = set()
-        self.closed = False
-        self.fault = False
+    def __init__(self):
+        self.cells = bytearray(CELL * ADDRESSES)
+        self.puts = Multiset()
+        self.takes = Multiset()
         self.clock = 0
-        self.put_hash = MultisetHash()
-        self.take_hash = MultisetHash()
+        self.fault = False
+        self.closed = False
+        self.used = set()
 
-    def tag(self, address, value, stamp):
-        message = b"\x01" + address.to_bytes(2, "big") + value + stamp.to_bytes(2, "big")
-        return hmac.new(self.key, message, hashlib.sha256).digest()
+    def cell(self, a):
+        """The value and the stamp at an address."""
+        whole = bytes(self.cells[CELL * a : CELL * a + CELL])
+        return whole[:VALUE], int.from_bytes(whole[VALUE:], "big")
 
-    def cell(self, address):
-        cell = self.store[CELL * address : CELL * address + CELL]
-        return bytes(cell[:VALUE]), int.from_bytes(cell[VALUE:], "big")
+    def write(self, a, value, stamp):
+        self.cells[CELL * a : CELL * a + CELL] = value + stamp.to_bytes(2, "big")
 
-    def write(self, address, value, stamp):
-        self.store[CELL * address : CELL * address + CELL] = value + stamp.to_bytes(2, "big")
-
-    def take(self, address):
-        value, stamp = self.cell(address)
+    def take(self, a):
+        value, stamp = self.cell(a)
         if stamp > self.clock:
             self.fault = True
-        self.take_hash.include(self.tag(address, value, stamp))
+        self.takes.insert(a, value, stamp)
         return value
 
-    def put(self, address, value):
+    def put(self, a, value):
         self.clock += 1
-        self.write(address, value, self.clock)
-        self.put_hash.include(self.tag(address, value, self.clock))
+        self.write(a, value, self.clock)
+        self.puts.insert(a, value, self.clock)
 
-    def refusal(self, address, *, in_use, ticks):
-        """The number that a call on an address is refused by, or 0: 7, 2, 4 or 5, 6 (the sizes are right here)."""
+    def refusal(self, a, in_use, ticks):
+        """The number of the first condition that refuses: closed, address, in use or not, clock."""
         if self.closed:
             return 7
-        if address >= ADDRESSES:
+        if a >= ADDRESSES:
             return 2
-        if in_use and address not in self.used:
+        if in_use and a not in self.used:
             return 5
-        if not in_use and address in self.used:
+        if not in_use and a in self.used:
             return 4
         if ticks and self.clock == CEILING:
             return 6
         return 0
 
-    def add(self, address, value):
-        number = self.refusal(address, in_use=False, ticks=True)
-        if number == 0:
-            self.put(address, value)
-            self.used.add(address)
-        return number
+    def add(self, a, byte):
+        n = self.refusal(a, False, True)
+        if n == 0:
+            self.put(a, bytes([byte]) * VALUE)
+            self.used.add(a)
+        return str(n)
 
-    def load(self, address):
-        number = self.refusal(address, in_use=True, ticks=True)
-        if number:
-            return number, None
-        value = self.take(address)
-        self.put(address, value)
-        return 0, value
+    def store(self, a, byte):
+        n = self.refusal(a, True, True)
+        if n == 0:
+            self.take(a)
+            self.put(a, bytes([byte]) * VALUE)
+        return str(n)
 
-    def replace(self, address, value):
-        number = self.refusal(address, in_use=True, ticks=True)
-        if number == 0:
-            self.take(address)
-            self.put(address, value)
-        return number
+    def load(self, a):
+        n = self.refusal(a, True, True)
+        if n != 0:
+            return str(n)
+        value = self.take(a)
+        self.put(a, value)
+        return "0 %02x" % value[0]
 
-    def remove(self, address):
-        number = self.refusal(address, in_use=True, ticks=False)
-        if number == 0:
-            self.take(address)
-            self.write(address, bytes(VALUE), 0)
-            self.used.discard(address)
-        return number
+    def remove(self, a):
+        n = self.refusal(a, True, False)
+        if n == 0:
+            self.take(a)
+            self.cells[CELL * a : CELL * a + CELL] = bytes(CELL)
+            self.used.discard(a)
+        return str(n)
 
     def check(self):
-        """None where it is refused, by 7; else whether it accepts."""
         if self.closed:
-            return None
-        tag, number, fault = self.take_hash.tag, self.take_hash.number, self.fault
-        values = {address: self.take(address) for address in sorted(self.used)}
-        if self.put_hash == self.take_hash and not self.fault:
-            self.put_hash, self.take_hash, self.clock = MultisetHash(), MultisetHash(), 1
-            for address, value in values.items():
-                self.write(address, value, 1)
-                self.put_hash.include(self.tag(address, value, 1))
-            return True
-        self.take_hash.tag, self.take_hash.number, self.fault = tag, number, fault
+            return "7"
+        entry = self.takes.copy(), self.fault
+        for a in sorted(self.used):
+            self.take(a)
+        if self.puts == self.takes and not self.fault:
+            self.puts, self.takes = Multiset(), Multiset()
+            self.clock = 1
+            for a in sorted(self.used):
+                value = self.cell(a)[0]
+                self.write(a, value, 1)
+                self.puts.insert(a, value, 1)
+            return "accept"
+        self.takes, self.fault = entry
         self.closed = True
-        return False
+        return "reject"
 
+    def spoil(self, a, byte, stamp):
+        if a >= ADDRESSES:
+            return "2"
+        self.write(a, bytes([byte]) * VALUE, stamp)
+        return "0"
 
-def words(line):
-    """The command that a line is, with its numbers; None for a bad line."""
-    for name, form in LINES.items():
-        found = form.fullmatch(line)
-        if found:
-            numbers = [int(g, 16) if name in ("add", "store", "spoil") and i == 1 else int(g) for i, g in enumerate(found.groups())]
-            if all(n <= 65535 for n in numbers):
-                return name, numbers
-    return None
-
-
-def run_line(checker, line):
-    read = words(line)
-    if read is None:
-        return "bad"
-    name, numbers = read
-    if name == "check":
-        verdict = checker.check()
-        return "check 7" if verdict is None else "check accept" if verdict else "check reject"
-    if name == "load":
-        number, value = checker.load(numbers[0])
-        return f"load {number}" if number else f"load 0 {value[0]:02x}"
-    if name == "remove":
-        return f"remove {checker.remove(numbers[0])}"
-    if name == "spoil":
-        if numbers[0] >= ADDRESSES:
-            return "spoil 2"
-        checker.write(numbers[0], bytes([numbers[1]]) * VALUE, numbers[2])
-        return "spoil 0"
-    value = bytes([numbers[1]]) * VALUE
-    number = checker.add(numbers[0], value) if name == "add" else checker.replace(numbers[0], value)
-    return f"{name} {number}"
+    def line(self, line):
+        """What a line prints."""
+        command = parse(line)
+        if command is None:
+            return "bad"
+        name, arguments = command
+        return name + " " + getattr(self, name)(*arguments)
 
 
 def session(data):
-    """What the bench prints for some input."""
+    """What the whole session prints."""
     if len(data) > LIMIT:
         return b"too long\n"
-    lines = data.split(b"\n")
-    if lines[-1] == b"":
-        lines.pop()
-    checker = Checker(bytes(32))
-    return "".join(run_line(checker, line) + "\n" for line in lines).encode()
+    bench = Bench()
+    return "".join(bench.line(line) + "\n" for line in lines_of(data)).encode()
 
 
 if __name__ == "__main__":

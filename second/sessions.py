@@ -1,123 +1,340 @@
-"""Holds the bench program against the second one, over sessions made from a seed.
+#!/usr/bin/env python3
+"""Runs seeded sessions through the bench program and through bench.py, and compares what they print.
 
-    sessions.py [COUNT] [SEED]      COUNT sessions (default 300) from SEED on (default 1); each session has a seed of its own, SEED, SEED + 1, ..
-    sessions.py --show SEED         prints the session of that seed
+    second/sessions.py [N [SEED]]        N sessions (300), from the seed (1)
 
-Its last line is 'COUNT sessions, 0 differences'; the first difference is printed with the command that shows the session, and ends the run with status 1.
+The last line is 'N sessions, 0 differences'. At the first difference the session is printed and written to a file, with the command that runs it again,
+and the exit status is 1. Session number i of a seed is the same on every machine.
 """
-import pathlib
+import os
 import random
 import subprocess
 import sys
+from concurrent.futures import ThreadPoolExecutor
 
 import bench
 
-PROGRAM = pathlib.Path(__file__).resolve().parent / "run-bench"
-EDGES = [0, 1, 1022, 1023, 1024, 65535]
-STAMPS = [0, 1, 2, 65534, 65535]
-MALFORMED = [
-    b"", b" ", b"\t", b"check ", b" check", b"check 1", b"Check", b"checks", b"chec", b"add", b"add ", b"add 5", b"add 5 ", b"add 5  41", b"add  5 41",
-    b"add 5 41 ", b"add 5 41 1", b"add 05 41", b"add 00 41", b"add +5 41", b"add -1 41", b"add 5 4", b"add 5 041", b"add 5 4A", b"add 5 4g", b"add 5 0x",
-    b"add 65536 41", b"add 99999 41", b"add 100000 41", b"add 18446744073709551621 41", b"add 5 41\r", b"add\t5 41", b"store 5", b"load", b"load 5 1", b"load 5 ",
-    b"load 4294967301", b"load five", b"remove", b"remove  5", b"remove 5 00", b"spoil 5 41", b"spoil 5 41 01", b"spoil 5 41 65536", b"spoil 5 41 1 1", b"spoil 5 4 1",
-    b"look 5", b"count", b"add 5,41", b"add 5 41\x00", b"\xff\xfe", b"add 5 \xc3\xa9", b"too long", b"bad",
-]
+HERE = os.path.dirname(os.path.abspath(__file__))
+PROGRAM = os.path.join(HERE, "run-bench")
+FOUND = os.path.join(HERE, "..", "target", "difference.session")
+
+EDGE_ADDRESSES = [0, 1, 511, 1022, 1023, 1024, 1025, 32768, 65535]
+EDGE_STAMPS = [0, 1, 2, 255, 256, 257, 65534, 65535]
 
 
-def lawful(rng, addresses):
-    """A line of lawful work, most often on few addresses."""
-    address = rng.choice(addresses)
-    kind = rng.choice(["add", "add", "store", "load", "load", "remove", "check"] if rng.random() < 0.8 else ["store", "load"])
-    if kind == "check":
-        return b"check"
-    if kind in ("load", "remove"):
-        return b"%s %d" % (kind.encode(), address)
-    return b"%s %d %02x" % (kind.encode(), address, rng.randrange(256))
+class Writer:
+    """A session under way: its lines, and the model's state after them, which tells what a cell holds and what it held."""
 
+    def __init__(self, rng, addresses):
+        self.rng = rng
+        self.addresses = addresses
+        self.lines = []
+        self.bench = bench.Bench()
+        self.past = []
 
-def tamper(rng, checker, addresses):
-    """Lines that write past the checker: an old cell, another's cell, a stamp ahead or at an edge, or the very cell that is there."""
-    address = rng.choice(addresses)
-    kind = rng.randrange(6)
-    value, stamp = checker.cell(address % 1024)
-    if kind == 0:
-        return [b"spoil %d %02x %d" % (address, value[0], stamp)]
-    if kind == 1 and checker.old.get(address):
-        value, stamp = rng.choice(checker.old[address])
-        return [b"spoil %d %02x %d" % (address, value, stamp)]
-    if kind == 2:
-        other = rng.choice(addresses)
-        theirs = checker.cell(other % 1024)
-        return [b"spoil %d %02x %d" % (address, theirs[0][0], theirs[1]), b"spoil %d %02x %d" % (other, value[0], stamp)]
-    if kind == 3:
-        return [b"spoil %d %02x %d" % (address, value[0], min(65535, checker.clock + rng.randrange(3)))]
-    if kind == 4:
-        return [b"spoil %d %02x %d" % (address, value[0], rng.choice(STAMPS))]
-    return [b"spoil %d %02x %d" % (address, rng.randrange(256), stamp)]
+    def say(self, text):
+        self.lines.append(text.encode())
+        self.bench.line(text.encode())
 
+    def size(self):
+        return sum(len(line) + 1 for line in self.lines)
 
-def session(seed):
-    """The bytes of the session of a seed."""
-    rng = random.Random(seed)
-    shape = seed % 20
-    if shape == 0:
-        return rng.choice([b"", b"\n", b"\n\n", b"check", b"check\n", b"add 0 00\ncheck", b" \n"])
-    if shape in (1, 2):
-        # just at the limit, or one above it
-        size = 4096 if shape == 1 else 4097
-        filler = rng.choice([b"check\n", b"add 7 07\n", b"\n", b"x" * 70 + b"\n"])
-        data = (filler * size)[:size]
-        return data if rng.random() < 0.5 else data[:-1] + b"\n"
-    if shape == 3:
-        # as many addresses as fit, then checks
-        lines = [b"add %d %02x" % (a, rng.randrange(256)) for a in range(rng.randrange(200, 330))]
-        lines += [b"check", b"load 3", b"check"] + ([b"spoil 9 aa 1", b"check", b"check"] if rng.random() < 0.5 else [])
-        return b"\n".join(lines)[:4096]
-    addresses = rng.sample(range(1024), rng.randrange(1, 6)) + rng.sample(EDGES, rng.randrange(0, 4))
-    lies = rng.choice([0, 0, 0.05, 0.3])
-    errors = rng.choice([0, 0.1, 0.5])
-    checker = bench.Checker(bytes(32))
-    checker.old = {}
-    lines = []
-    for _ in range(rng.randrange(1, 200)):
-        roll = rng.random()
-        if roll < errors:
-            new = [rng.choice(MALFORMED)]
-        elif roll < errors + lies:
-            new = tamper(rng, checker, addresses)
+    def address(self):
+        return self.rng.choice(self.addresses)
+
+    def byte(self):
+        return "%02x" % self.rng.choice([0, 0x0A, 0x41, 0x99, 0xAF, 0xFF, self.rng.randrange(256)])
+
+    def used(self):
+        return self.rng.choice(sorted(self.bench.used)) if self.bench.used else self.address()
+
+    def spoil(self, a, value, stamp):
+        self.say("spoil %d %02x %d" % (a, value[0], stamp))
+
+    def remember(self, a):
+        if a < bench.ADDRESSES:
+            self.past.append((a,) + self.bench.cell(a))
+
+    def work(self):
+        """A lawful call, mostly one that is not refused."""
+        a = self.used()
+        kind = self.rng.randrange(10)
+        if kind < 3:
+            a = self.address()
+            self.say("add %d %s" % (a, self.byte()))
+        elif kind < 6:
+            self.say("store %d %s" % (a, self.byte()))
+        elif kind < 8:
+            self.say("load %d" % a)
+        elif kind < 9:
+            self.say("remove %d" % a)
         else:
-            new = [lawful(rng, addresses)]
-        for line in new:
-            lines.append(line)
-            bench.run_line(checker, line)
-            for address in addresses:
-                if address < 1024:
-                    value, stamp = checker.cell(address)
-                    kept = checker.old.setdefault(address, [])
-                    if (value[0], stamp) not in kept:
-                        kept.append((value[0], stamp))
-    data = b"\n".join(lines)[:4096]
-    return data + b"\n" if rng.random() < 0.7 else data
+            self.say("check")
+        self.remember(a)
+
+    def replay(self):
+        """An old cell is put back: the same value and the same stamp at its address."""
+        if self.past:
+            self.spoil(*self.rng.choice(self.past))
+
+    def swap(self):
+        """Two cells change places."""
+        if len(self.bench.used) > 1:
+            a, b = self.rng.sample(sorted(self.bench.used), 2)
+            first, second = self.bench.cell(a), self.bench.cell(b)
+            self.spoil(a, *second)
+            self.spoil(b, *first)
+
+    def ahead(self):
+        """A stamp at the clock or ahead of it."""
+        a = self.used()
+        if a < bench.ADDRESSES:
+            stamp = min(65535, self.bench.clock + self.rng.choice([0, 1, 2, 3, 100]))
+            self.spoil(a, self.bench.cell(a)[0], stamp)
+
+    def edge(self):
+        """A stamp at an end of its range, with the value there or another one."""
+        a = self.used()
+        if a < bench.ADDRESSES:
+            value = self.bench.cell(a)[0] if self.rng.random() < 0.5 else bytes([self.rng.randrange(256)])
+            self.spoil(a, value, self.rng.choice(EDGE_STAMPS))
+
+    def detour(self):
+        """A cell is spoiled and mended again before anybody reads it."""
+        a = self.used()
+        if a < bench.ADDRESSES:
+            value, stamp = self.bench.cell(a)
+            self.spoil(a, bytes([self.rng.randrange(256)]), self.rng.choice(EDGE_STAMPS))
+            self.spoil(a, value, stamp)
 
 
-def compare(count, first):
-    for seed in range(first, first + count):
-        data = session(seed)
-        done = subprocess.run([str(PROGRAM)], input=data, capture_output=True)
-        wanted = bench.session(data)
-        if done.returncode != 0 or done.stdout != wanted:
-            print(f"seed {seed}: the two programs differ (exit status {done.returncode}); the session: python3 second/sessions.py --show {seed}")
-            got, want = done.stdout.split(b"\n"), wanted.split(b"\n")
-            place = next((i for i, (g, w) in enumerate(zip(got, want)) if g != w), min(len(got), len(want)))
-            print(f"line {place + 1}: the bench prints {got[place:place + 1]}, the second program {want[place:place + 1]}")
-            return 1
-    print(f"{count} sessions, 0 differences")
+def steps(rng, addresses, moves, count):
+    """A session of lawful work with some of the moves between, and a check at the end."""
+    w = Writer(rng, addresses)
+    for _ in range(count):
+        if moves and rng.random() < 0.15:
+            getattr(w, rng.choice(moves))()
+        else:
+            w.work()
+        if w.size() > bench.LIMIT - 64:
+            break
+    w.say("check")
+    w.say("load %d" % w.used())
+    return w.lines
+
+
+def few(rng):
+    return rng.sample(range(bench.ADDRESSES), rng.randint(1, 5))
+
+
+def lawful(rng):
+    return steps(rng, few(rng), [], rng.randint(1, 120))
+
+
+def lying(rng):
+    moves = rng.sample(["replay", "swap", "ahead", "edge", "detour"], rng.randint(1, 5))
+    return steps(rng, few(rng), moves, rng.randint(1, 120))
+
+
+def edges(rng):
+    return steps(rng, EDGE_ADDRESSES, ["edge", "replay"], rng.randint(1, 80))
+
+
+def every_command_at(rng):
+    """Each command at each address of interest, before and after it is in use."""
+    lines = []
+    for a in rng.sample(EDGE_ADDRESSES, len(EDGE_ADDRESSES)):
+        for _ in range(rng.randint(1, 3)):
+            lines.append("%s %d" % (rng.choice(["load", "remove"]), a))
+            lines.append("%s %d %02x" % (rng.choice(["add", "store"]), a, rng.randrange(256)))
+            lines.append("spoil %d %02x %d" % (a, rng.randrange(256), rng.choice(EDGE_STAMPS)))
+    lines.append("check")
+    return [line.encode() for line in lines]
+
+
+def closed(rng):
+    """A closed state refuses every call but takes a spoil."""
+    w = Writer(rng, few(rng))
+    w.say("add %d %s" % (w.address(), w.byte()))
+    w.spoil(w.used(), bytes([rng.randrange(256)]), rng.choice([0, 1, 2]))
+    w.say("check")
+    for _ in range(rng.randint(1, 30)):
+        w.work()
+        if rng.random() < 0.3:
+            w.edge()
+    return w.lines
+
+
+def crowded(rng):
+    """Many addresses in use, and long checks."""
+    w = Writer(rng, range(bench.ADDRESSES))
+    first = rng.choice([0, 1, 63, 64, 500, 1023 - 300])
+    for a in range(first, min(first + rng.randint(100, 300), bench.ADDRESSES)):
+        w.say("add %d %s" % (a, w.byte()))
+        if w.size() > bench.LIMIT - 400:
+            break
+    for _ in range(rng.randint(1, 12)):
+        rng.choice([w.work, w.work, w.replay, w.swap, w.detour])()
+        if rng.random() < 0.5:
+            w.say("check")
+    return w.lines
+
+
+def odd_number(rng):
+    n = rng.choice([0, 1, 5, 9, 10, 1023, 1024, 65535])
+    return rng.choice(
+        ["0%d" % n, "00", "+%d" % n, "-%d" % n, "65536", "65540", "70000", "99999", "100000", "655350", "4294967301", "18446744073709551621", "1" * 40]
+        + ["%dx" % n, "x%d" % n, "0x5", "5.", "5,", "1_0", "", "a", "/", ":", "5\x00", "\xb2", "\u0665", "1e1", "%x" % (n + 10)]
+    )
+
+
+def odd_byte(rng):
+    return rng.choice(["4A", "FF", "4", "041", "4g", "g4", "0x", "x0", "", "/0", "0:", "`0", "0@", "G0", "4\x00", "aF", "Af", "\xe9\xe9", " 4", "4 "])
+
+
+def bad_line(rng):
+    """A line that is no command, or nearly one."""
+    good = rng.choice(["add 5 41", "store 5 42", "load 5", "remove 5", "check", "spoil 5 41 1"])
+    words = good.split(" ")
+    kind = rng.randrange(14)
+    if kind == 0:
+        return ""
+    if kind == 1:
+        return " " + good
+    if kind == 2:
+        return good + " "
+    if kind == 3:
+        k = rng.randrange(1, len(good) + 1)
+        return good[:k] + rng.choice(["  ", "\t", "\r", "\x0b", "\x00", "\xa0", " \t"]) + good[k:]
+    if kind == 4:
+        return good.replace(" ", "  ", 1)
+    if kind == 5:
+        return good.upper() if rng.random() < 0.5 else good.capitalize()
+    if kind == 6:
+        return good[: rng.randrange(len(good))]
+    if kind == 7:
+        return good + rng.choice([" 5", " 41", " x", "x", "5", " check"])
+    if kind == 8:
+        return " ".join(words[: rng.randrange(1, len(words) + 1)] + ["5"] * rng.randrange(3))
+    if kind in (9, 10):
+        words[rng.choice([1, -1]) if words[1:] else 0] = odd_number(rng)
+        return " ".join(words)
+    if kind == 11 and len(words) > 2:
+        words[2] = odd_byte(rng)
+        return " ".join(words)
+    if kind == 12:
+        return rng.choice(["ad", "adda", "stor", "loads", "rem", "chec", "checks", "spoi", "bad", "too long", "start", "look 5", "count", "#", "add5 41", "add 541"])
+    return "".join(chr(rng.randrange(256)) for _ in range(rng.randrange(1, 20))).replace("\n", " ")
+
+
+def malformed(rng):
+    """Lawful work with bad lines between: they change nothing."""
+    w = Writer(rng, few(rng) + [5])
+    for _ in range(rng.randint(1, 60)):
+        if rng.random() < 0.5:
+            w.lines.append(bad_line(rng).encode("latin-1", "replace"))
+            w.bench.line(w.lines[-1])
+        else:
+            w.work()
+    return w.lines
+
+
+def all_bad(rng):
+    return [bad_line(rng).encode("latin-1", "replace") for _ in range(rng.randint(1, 100))]
+
+
+def noise(rng):
+    """Bytes at random: of all kinds, or of those that lines are made of."""
+    alphabet = rng.choice([bytes(range(256)), b"adstorelmvchkpi 0123456789\n", b"add 0159af\n", b"check\n", b"\n", b" \n", b"spoil 5 41 1\n"])
+    return [bytes(rng.choice(alphabet) for _ in range(rng.choice([1, 10, 100, 1000])))]
+
+
+def damaged(rng):
+    """A session with some bytes changed, dropped or doubled."""
+    data = bytearray(b"\n".join(rng.choice([lawful, lying, edges])(rng)))
+    for _ in range(rng.randint(1, 8)):
+        k = rng.randrange(len(data))
+        kind = rng.randrange(4)
+        if kind == 0:
+            data[k] = rng.randrange(256)
+        elif kind == 1 and len(data) > 1:
+            del data[k]
+        elif kind == 2:
+            data.insert(k, data[k])
+        else:
+            data.insert(k, rng.choice(b" \n0"))
+    return [bytes(data)]
+
+
+def sized(rng):
+    """An input of a given size, at the limit or beside it."""
+    size = rng.choice([4094, 4095, 4096, 4096, 4096, 4097, 4097, 4098, 5000, 8192, 20000])
+    unit = rng.choice([b"check\n", b"load 5\n", b"\n", b"x", b"bad bad bad\n", b"add 5 41\n"])
+    lines = b"\n".join(rng.choice([lawful, lying])(rng)) + b"\n"
+    data = (lines + unit * size)[:size]
+    if rng.random() < 0.5:
+        data = data[:-1] + b"\n"
+    return [data]
+
+
+def tiny(rng):
+    return [rng.choice([b"", b"\n", b"\n\n", b" ", b"check", b"check\n", b"check\n\n", b"x", b"\ncheck", b"add 0 00", b"load 0\nload 0", b"check\r\n", b"\x00"])]
+
+
+KINDS = [lawful, lying, lying, edges, every_command_at, closed, crowded, malformed, all_bad, noise, damaged, sized, tiny, lying]
+
+
+def make(seed, i):
+    """Session number i of a seed."""
+    rng = random.Random("%s:%d" % (seed, i))
+    data = b"\n".join(KINDS[i % len(KINDS)](rng))
+    if rng.random() < 0.7 and len(data) < bench.LIMIT and not data.endswith(b"\n"):
+        data += b"\n"
+    return data
+
+
+def run(data):
+    """What the program prints; its exit status is 0, and it says nothing else."""
+    done = subprocess.run([PROGRAM], input=data, stdout=subprocess.PIPE, stderr=subprocess.PIPE)
+    if done.returncode != 0 or done.stderr:
+        return done.stdout + b"\nexit status %d\n" % done.returncode + done.stderr
+    return done.stdout
+
+
+def tell(seed, i, data, wanted, got):
+    """The first difference, as a session that anyone can run again."""
+    os.makedirs(os.path.dirname(FOUND), exist_ok=True)
+    with open(FOUND, "wb") as f:
+        f.write(data)
+    path = os.path.relpath(FOUND)
+    lines, ours, theirs = bench.lines_of(data), wanted.split(b"\n"), got.split(b"\n")
+    print("session %d of seed %s, %d bytes:" % (i, seed, len(data)))
+    for k in range(max(len(lines), len(ours), len(theirs))):
+        row = [part[k] if k < len(part) else b"" for part in (lines, ours, theirs)]
+        mark = " " if row[1] == row[2] else "*"
+        print("%s %4d  %-40r bench.py: %-20r bench: %r" % (mark, k + 1, row[0][:60], row[1], row[2]))
+    print("it is in %s: run" % path)
+    print("  %s < %s" % (os.path.relpath(PROGRAM), path))
+    print("  %s < %s" % (os.path.relpath(os.path.join(HERE, "bench.py")), path))
+
+
+def main():
+    count = int(sys.argv[1]) if len(sys.argv) > 1 else 300
+    seed = sys.argv[2] if len(sys.argv) > 2 else "1"
+    with ThreadPoolExecutor(os.cpu_count()) as pool:
+        done = 0
+        while done < count:
+            batch = [make(seed, i) for i in range(done, min(done + 200, count))]
+            for i, (data, got) in enumerate(zip(batch, pool.map(run, batch)), done):
+                wanted = bench.session(data)
+                if wanted != got:
+                    tell(seed, i, data, wanted, got)
+                    print("%d sessions, 1 difference" % (i + 1))
+                    return 1
+            done += len(batch)
+    print("%d sessions, 0 differences" % count)
     return 0
 
 
 if __name__ == "__main__":
-    if sys.argv[1:2] == ["--show"]:
-        sys.stdout.buffer.write(session(int(sys.argv[2])))
-    else:
-        numbers = [int(word) for word in sys.argv[1:3]] + [300, 1][len(sys.argv[1:3]):]
-        sys.exit(compare(*numbers))
+    sys.exit(main())

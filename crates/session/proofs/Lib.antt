@@ -1,0 +1,4 @@
+pub mod Pages
+pub mod Spoils
+pub mod Says
+pub mod Turns

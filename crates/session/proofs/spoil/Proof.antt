@@ -1,0 +1,46 @@
+-- `session::spoil` meets its contract: the address is tested, and the cell's part of the store is put back filled. Assumes nothing.
+use borrow.Rule.Slice.PartMut.{post-is}
+use borrow.Author.Needs.{needs}
+use mathlib.Core.Path.{sym, ap, ap₂, _∙_}
+use mathlib.Core.List.{List, _++_}
+use native.Mathlib.Omega.{arith}
+use Prim.Native.Nat.{ℕ, _+_, _*_}
+use lib.ListN.{length-take, length-drop, take}
+use Rattle.refusal.specs.Refusal.{filled}
+use Rattle.lent.proofs.Copied.{copied-all}
+use Rattle.state.specs.Sizes.{addresses, valueSize, cellSize, storeSize}
+use Rattle.state.specs.Cells.{writeCell}
+use Rattle.session.proofs.Spoils.{spoil-done, spoil-refused, cell-filled}
+use Rattle.session.proofs.spoil.Statement.{statement}
+use Rattle.session.proofs.spoil.Tie as tie
+
+returns : tie.Need-returns
+returns c = sym (spoil-refused _ _ _ (c .if1 .taken))
+
+part-copy-end : tie.Need-part-copy-end
+unfolding addresses valueSize cellSize storeSize
+part-copy-end c = search needs
+
+returns-2 : tie.Need-returns-2
+unfolding addresses valueSize cellSize storeSize writeCell
+returns-2 c = let x = c .before .before .before .before .before .before .before .args in ap (filled 0) (ap₂ (λ (k l : List ℕ). take (30 * x .a) (x .store .now) ++ (k ++ l)) (c .before .before .copy .ensures ∙ copied-all _ _ (simp (length-take, length-drop) (omega arith)) ∙ cell-filled (x .v) (x .t) (search needs)) (post-is (30 * x .a) (30 * x .a + 30) (x .store .now) (omega arith))) ∙ sym (spoil-done (x .a) _ _ (omega arith))
+
+pub spoil-spec : {M : Type 1} → statement M
+spoil-spec =
+    tie.close
+    (tie.spec
+    returns
+    (λ c. search needs)
+    (λ c. search needs)
+    (λ c. search needs)
+    (λ c. search needs)
+    (λ c. search needs)
+    (λ c. search needs)
+    (λ c. search needs)
+    (λ c. search needs)
+    (λ c. search needs)
+    part-copy-end
+    (λ c. search needs)
+    (λ c κs. search needs)
+    (λ c. search needs)
+    returns-2)

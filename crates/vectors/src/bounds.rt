@@ -1,0 +1,103 @@
+// Calls with sizes at their bounds and one beside them: each prints its sizes, the number given, and the bytes of the output or that none changed.
+ghost use Prim.Native.Nat.{_≤_};
+
+// Prints some words and a size.
+fn size(words: &[u8], n: usize) {
+    io::write_all(1, words);
+    io::print_decimal(1, n as u64);
+}
+
+// A byte as a number.
+fn wide(b: u8) -> u64 {
+    b as u64
+}
+
+// Is every byte still the one that the buffer was filled with?
+fn unchanged(out: [u8; 33]) -> bool {
+    let mut i = 0;
+    while i < 33 {
+        if out[i] != 0x55 {
+            return false;
+        }
+        i += 1;
+    }
+    true
+}
+
+// Prints bytes in hexadecimal.
+fn print_bytes(bytes: &[u8]) {
+    let mut i = 0;
+    while i < bytes.len() {
+        io::print_hex(1, wide(bytes[i]), 2);
+        i += 1;
+    }
+}
+
+// Prints a number, and the output buffer where it changed.
+fn print_answer(number: u8, out: [u8; 33]) {
+    io::write_all(1, b": ");
+    io::print_decimal(1, wide(number));
+    io::write_all(1, b" ");
+    if unchanged(out) {
+        io::write_all(1, b"unchanged");
+    } else {
+        print_bytes(&out[0..32]);
+    }
+    io::write_all(1, b"\n");
+}
+
+// A digest of n bytes into room bytes.
+fn digest(n: usize, room: usize)
+    requires { ⌜ (n ≤ 8193) × (room ≤ 33) ⌝ }
+{
+    let message = [0xaau8; 8193];
+    let mut out = [0x55u8; 33];
+    let number = sha256::digest(&message[0..n], &mut out[0..room]);
+    size(b"digest of ", n);
+    size(b" into ", room);
+    print_answer(number, out);
+}
+
+// The HMAC of n bytes under a key of k into room bytes.
+fn mac(k: usize, n: usize, room: usize)
+    requires { ⌜ (k ≤ 1025) × ((n ≤ 4097) × (room ≤ 33)) ⌝ }
+{
+    let key = [0xccu8; 1025];
+    let message = [0xaau8; 4097];
+    let mut out = [0x55u8; 33];
+    let number = hmac::mac(&key[0..k], &message[0..n], &mut out[0..room]);
+    size(b"HMAC under ", k);
+    size(b" of ", n);
+    size(b" into ", room);
+    print_answer(number, out);
+}
+
+// Digests at their bounds.
+pub fn digests() {
+    digest(0, 32);
+    digest(8191, 32);
+    digest(8192, 32);
+    digest(8193, 32);
+    digest(8192, 31);
+    digest(8192, 33);
+}
+
+// HMACs at their bounds.
+pub fn macs() {
+    mac(0, 0, 32);
+    mac(1023, 4096, 32);
+    mac(1024, 4096, 32);
+    mac(1025, 4096, 32);
+    mac(1024, 4095, 32);
+    mac(1024, 4097, 32);
+    mac(1024, 4096, 31);
+    mac(1024, 4096, 33);
+}
+
+// The tag of 33 bytes under a key of 32.
+pub fn tag() {
+    let tag = hmac::tag([0xccu8; 32], [0xaau8; 33]);
+    io::write_all(1, b"tag under 32 of 33: ");
+    print_bytes(&tag);
+    io::write_all(1, b"\n");
+}

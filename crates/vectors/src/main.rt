@@ -1,0 +1,13 @@
+// Runs the published vectors of SHA-256 and of HMAC with it by the proved functions, and calls these at the bounds of their sizes.
+mod bounds;
+mod cases;
+mod text;
+
+fn main() {
+    cases::run(b"SHA256ShortMsg.rsp", b"SHA256ShortMsg", false);
+    cases::run(b"SHA256LongMsg.rsp", b"SHA256LongMsg", false);
+    cases::run(b"rfc4231-sha256.txt", b"RFC 4231", true);
+    bounds::digests();
+    bounds::macs();
+    bounds::tag();
+}
