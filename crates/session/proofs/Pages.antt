@@ -88,3 +88,7 @@ write-length g l = simp (length-append, length-take, length-copied, length-drop)
 pub write-at : (g : Page) (l : List ℕ) → write g l .at ≤ length (g .bytes)
 unfolding write
 write-at g l = omega arith
+
+-- what is written up to lies on the page
+pub page-within : (g : Page) (l o : List ℕ) (n : ℕ) → page o n ≡ write g l → n ≤ length o
+page-within g l o n e = omega (arith, ap (λ (p : Page). p .at) e, ap (λ (p : Page). length (p .bytes)) e, write-at g l, write-length g l)
