@@ -1,3 +1,4 @@
+-- `cases::each_bit` ends: the bit counts up to the end. Assumes nothing.
 use Prim.Native.Nat.{_-_}
 use borrow.Author.Needs.{needs}
 use Rattle.cases.proofs.each_bit.Statement.{statement}

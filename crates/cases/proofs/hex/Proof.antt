@@ -1,3 +1,4 @@
+-- `cases::hex` reads inside its slice: the index counts up to the length. Assumes nothing.
 use Prim.Native.Nat.{_-_, _≤_}
 use borrow.Author.Needs.{needs}
 use lib.ListN.{length}

@@ -1,3 +1,4 @@
+-- `cases::kept` writes inside its array: the index counts up to 16. Assumes nothing.
 use Prim.Native.Nat.{_-_, _≤_}
 use borrow.Author.Needs.{needs}
 use Rattle.cases.proofs.kept.Statement.{statement}

@@ -1,3 +1,4 @@
+-- `cases::past` ends: the length counts up to the end. Assumes nothing.
 use Prim.Native.Nat.{_-_}
 use borrow.Author.Needs.{needs}
 use Rattle.cases.proofs.past.Statement.{statement}

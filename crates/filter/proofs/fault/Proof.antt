@@ -1,3 +1,4 @@
+-- `filter::fault` meets its contract: each row's condition is what a function below says. Assumes nothing.
 use mathlib.Core.Path.{ap₂, _∙_}
 use mathlib.Core.Bool.{Bool}
 use mathlib.Core.List.{[], _∷_}

@@ -1,3 +1,4 @@
+-- `filter::head` meets its contract: the twelve bytes are one number with the fields before the prefix. Assumes nothing.
 use native.Mathlib.Omega.{arith}
 use borrow.Author.Needs.{needs}
 use Rattle.filter.proofs.Fields.{front-number, word-of}

@@ -1,3 +1,4 @@
+-- `filter::pack` meets its contract: the size, then the rows, then the bytes written. Assumes nothing.
 use mathlib.Core.Path.{sym, ap, _∙_}
 use borrow.Author.Needs.{needs}
 use Rattle.refusal.specs.Refusal.{filled}

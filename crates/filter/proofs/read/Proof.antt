@@ -1,3 +1,4 @@
+-- `filter::read` meets its contract: each field is the part of the bytes' number that its width cuts out. Assumes nothing.
 use mathlib.Core.Path.{_≡_}
 use mathlib.Core.List.{List}
 use Prim.Native.Nat.{ℕ}

@@ -1,3 +1,4 @@
+-- `filter::set_in` meets its contract: a byte's bits past the first l are its remainder by 2^(8 - l). Assumes nothing.
 use mathlib.Core.Path.{sym}
 use Prim.Native.Nat.{_-_}
 use borrow.Author.Needs.{needs}

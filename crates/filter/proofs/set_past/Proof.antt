@@ -1,3 +1,4 @@
+-- `filter::set_past` meets its contract: byte by byte, with eight bits fewer left each time. Assumes nothing.
 use mathlib.Core.Path.{_≡_, refl, sym, _∙_}
 use mathlib.Core.List.{List}
 use Prim.Native.Nat.{ℕ, _-_}

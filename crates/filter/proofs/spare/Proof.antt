@@ -1,3 +1,4 @@
+-- `filter::spare` meets its contract: the spare bits are the low bits of byte 2 and byte 3. Assumes nothing.
 use mathlib.Core.Path.{_≡_}
 use mathlib.Core.List.{List}
 use Prim.Native.Nat.{ℕ}

@@ -1,3 +1,4 @@
+-- `filter::unlawful` meets its contract: by its two tests. Assumes nothing.
 use borrow.Author.Needs.{needs}
 use borrow.Author.Tests.{le-leb, lt-leb}
 use Rattle.filter.proofs.unlawful.Statement.{statement}

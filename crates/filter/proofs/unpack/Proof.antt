@@ -1,3 +1,4 @@
+-- `filter::unpack` meets its contract: the size, the spare bits, then the rows of the fields read. Assumes nothing.
 use mathlib.Core.Path.{sym, ap, _∙_}
 use borrow.Author.Needs.{needs}
 use Rattle.refusal.specs.Refusal.{first}

@@ -1,3 +1,4 @@
+-- `filter::write` meets its contract: the bytes before the prefix and the prefix fill the buffer. Assumes nothing.
 use mathlib.Core.Path.{_≡_, sym, ap, ap₂, _∙_}
 use mathlib.Core.List.{List, _++_}
 use Prim.Native.Nat.{ℕ}

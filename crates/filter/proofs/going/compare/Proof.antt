@@ -1,3 +1,4 @@
+-- `filter::compare` meets its contract: by its two tests. Assumes nothing.
 use borrow.Author.Tests.{eq-eqb, ne-eqb, lt-ltb, le-ltb}
 use Rattle.filter.specs.Going.{goingOf}
 use Rattle.filter.proofs.going.compare.Statement.{statement}
