@@ -8,7 +8,7 @@ import re
 import sys
 
 top = pathlib.Path(__file__).resolve().parent.parent
-pages = [top / "docs" / name for name in ("PROMISES.md", "TIGHTNESS.md") if (top / "docs" / name).exists()]
+pages = [top / "docs" / name for name in ("PROMISES.md", "TIGHTNESS.md")]
 missing = []
 seen = 0
 

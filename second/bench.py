@@ -1,7 +1,7 @@
 #!/usr/bin/env python3
 """What the bench program must print for the session on standard input.
 
-Written from document 01 alone, with Python's own SHA-256 and HMAC. It shares nothing with the program that it is held against.
+Written from the rules (docs/RULES.md) alone, with Python's own SHA-256 and HMAC. It shares nothing with the program that it is held against.
 """
 import hmac
 import re
@@ -44,7 +44,7 @@ def parse(line):
 
 
 def lines_of(data):
-    """The lines of an input: after a last newline there is no further line."""
+    """The lines of an input; nothing after the last newline is no line."""
     parts = data.split(b"\n")
     if parts[-1] == b"":
         parts.pop()

@@ -65,7 +65,7 @@ spareIn bs = getD (partsIn bs) 4 0
 unfoldable pub filterIn : List ℕ → FilterRecord
 filterIn bs = filterOf (partsIn bs)
 
--- ---- 01, "The filter record": lawful. IPv4 uses the first 32 prefix bits: its length is at most 32, and all bits past it are 0
+-- ---- 01, The filter record: lawful. An IPv4 prefix has at most 32 bits, and every bit of the 128 past its length is 0
 
 -- the longest length that a family has
 abbrev pub topOf : Family → ℕ

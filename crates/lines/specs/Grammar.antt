@@ -25,7 +25,7 @@ unfoldable pub parts : ℕ → List (List ℕ) → List ℕ → List (List ℕ)
 parts end last [] = last
 parts end last (x ∷ xs) = cond (eqb x end) ([] ∷ parts end last xs) (onto x (parts end last xs))
 
--- the lines of an input: they end at a newline or at the end, and after a last newline there is no further line
+-- the lines of an input: what stands before each newline, and what stands after the last, unless that is nothing
 unfoldable pub linesIn : List ℕ → List (List ℕ)
 linesIn input = parts newline [] input
 

@@ -1,4 +1,4 @@
--- 01, "Its tag is the HMAC of that message under the key".
+-- 01, The multiset hash: the tag of an entry.
 -- Assumes nothing.
 use mathlib.Core.List.{List}
 use Prim.Native.Nat.{ℕ}

@@ -4,6 +4,7 @@ use mathlib.Core.Path.{_≡_, refl, sym, ap, _∙_}
 use mathlib.Core.Bool.{Bool, true, false}
 use mathlib.Core.List.{List, [], _∷_}
 use mathlib.Core.Logic.{_↔_}
+use mathlib.Core.Option.{some}
 use Prim.Native.Nat.{ℕ, zero, suc}
 use native.Mathlib.Omega.{arith}
 use Rattle.refusal.specs.Refusal.{Row, first, choose, done, Given, Filled, filled, fills}
@@ -17,7 +18,7 @@ use Rattle.state.specs.Cells.{valueAt}
 use Rattle.state.specs.Start.{none, startRows, startOf}
 use Rattle.state.specs.Step.{Seen, seen, Step}
 use Rattle.state.specs.Moves.{call, added, loaded, stored, removed, addOf, loadOf, storeOf, removeOf, lookOf, lowestOf, freeNumber, addRows, useRows, removeRows, lookRows, lowestRows}
-use Rattle.state.specs.Check.{checkRows, agrees, takeBelow, acceptance, rejection, checkOf}
+use Rattle.state.specs.Check.{verdictNumber, checkRows, agrees, takeBelow, acceptance, rejection, checkOf}
 use Rattle.state.specs.declared.State.{State}
 use Rattle.state.specs.declared.Verdict.the-variants.{Nothing}
 use Rattle.state.specs.declared.Free.the-variants.{At, Full}
@@ -56,6 +57,18 @@ check-number : (b : Bool) (x y : Step) → x .seen .number ≡ 0 → y .seen .nu
 check-number true x y e h = e
 check-number false x y e h = h
 
+-- a verdict where the call is done
+check-verdict : (n : ℕ) (s : State) (m : List ℕ) (x : Step) → x .seen .number ≡ 0 → verdictNumber (x .seen .verdict) ≡ some 0
+    → (done n x (record { seen = seen n Nothing s m []; events = [] }) .seen .number ≡ 0)
+    ↔ (verdictNumber (done n x (record { seen = seen n Nothing s m []; events = [] }) .seen .verdict) ≡ some 0)
+check-verdict zero s m x e v = ((λ z. v), (λ z. e))
+check-verdict (suc n) s m x e v = ((λ z. absurd (omega arith)), (λ z. let y : _≡_ {A = ℕ} 0 1 = cc in absurd (omega arith)))
+
+said : (b : Bool) (x y : Step) → verdictNumber (x .seen .verdict) ≡ some 0 → verdictNumber (y .seen .verdict) ≡ some 0
+    → verdictNumber (choose b x y .seen .verdict) ≡ some 0
+said true x y e h = e
+said false x y e h = h
+
 fills-exactly : (rows : List Row) (new old : List ℕ) → FillsExactly rows (fills rows new old) old
 fills-exactly rows new old = record { number = λ n. rows-exactly rows _ n refl; unchanged = λ h. done-other (first rows) new old h }
 
@@ -85,7 +98,7 @@ free-number true a = refl
 free-number false a = refl
 
 pub numbers : Numbers
-unfolding startOf addOf loadOf storeOf removeOf checkOf digestOf macOf lowestOf added loaded stored removed acceptance rejection
+unfolding call startOf addOf loadOf storeOf removeOf checkOf digestOf macOf lowestOf added loaded stored removed acceptance rejection
 numbers = record {
   start = λ n k. rows-exactly (startRows k) _ n refl;
   start-refused = λ k h. done-other (first (startRows k)) _ none h;
@@ -94,6 +107,11 @@ numbers = record {
   store = λ s m a v. call-exactly (useRows width s m a v) s m [] (stored width tag s m a v) refl;
   remove = λ s m a. call-exactly (removeRows width s m a) s m [] (removed width tag s m a) refl;
   check = λ s m. call-exactly (checkRows width s m) s m [] (choose (agrees (takeBelow width tag s m addresses)) (acceptance width tag s m) (rejection width tag s m)) (check-number (agrees (takeBelow width tag s m addresses)) (acceptance width tag s m) (rejection width tag s m) refl refl);
+  check-verdict = λ s m.
+      let x = acceptance width tag s m in
+      let y = rejection width tag s m in
+      let b = agrees (takeBelow width tag s m addresses) in
+      check-verdict (first (checkRows width s m)) s m (choose b x y) (check-number b x y refl refl) (said b x y refl refl);
   look = look-exactly;
   lowest-free = λ n ws. rows-exactly (lowestRows ws) _ n (free-number (eqb (lowestFrom addresses 0 ws) addresses) (lowestFrom addresses 0 ws));
   digest = λ m out. fills-exactly _ _ out;

@@ -1,9 +1,49 @@
--- The third demand at the store's own tag, HMAC of an entry's message, and that equal messages are of equal entries.
+-- The second demand, and the third at the store's own tag, HMAC of an entry's message. The first is in Numbers.antt.
 -- Assumes nothing.
 use mathlib.Core.Path.{_≡_}
-use Rattle.state.specs.Sizes.{width}
+use mathlib.Core.Bool.{true, false}
+use mathlib.Core.List.{List}
+use mathlib.Core.Logic.{_⊎_, _↔_}
+use Prim.Native.Nat.{ℕ, _^_, _<_}
+use lib.ListN.{length}
+use Rattle.refusal.specs.Refusal.{Given}
+use Rattle.constants.specs.Constants.{KRule, H0Rule}
+use Rattle.state.specs.Sizes.{width, addresses}
+use Rattle.state.specs.Cells.{Entry}
+use Rattle.state.specs.Multiset.{message, hash}
+use Rattle.state.specs.Counts.{times}
+use Rattle.state.specs.Step.{takeEntry}
+use Rattle.state.specs.Check.{checkRows, takeBelow, checkOf}
+use Rattle.state.specs.declared.State.{State}
+use Rattle.state.specs.declared.Verdict.the-variants.{Accept}
 use Rattle.multiset.specs.Tag.{tag}
+use Rattle.filter.specs.Promises.{OneToOne, Compared}
 use Rattle.run.specs.Demand3.{Demand3}
+
+-- an entry whose parts fit their places in a message
+pub record Fits (e : Entry) : Type 0 where
+  pub address : e .address < 65536
+  pub value : length (e .value) ≡ 28
+  pub stamp : e .stamp < 256 ^ width
+
+-- what the definitions of SHA-256, HMAC and the multiset hash, which the contracts cite, leave to be said
+pub record SecondDemand : Type 0 where
+  -- the constants follow the rule of roots
+  pub round-constants : KRule
+  pub starting-words : H0Rule
+  -- the hash is one of multisets: lists that hold each entry equally often have one hash
+  pub same-hash : (key : List ℕ) (p t : List Entry) → ((e : Entry) → times e p ≡ times e t) → hash (tag key) p ≡ hash (tag key) t
+  -- entries with one message are one entry
+  pub one-entry : (d e : Entry) → Fits d → Fits e → message width d ≡ message width e → d ≡ e
+  -- a check that is done accepts exactly when after its takes both hashes agree and no fault is marked
+  pub check-accepts : (s : State) (m : List ℕ) → Given 0 (checkRows width s m)
+      → (checkOf width tag s m .seen .verdict ≡ Accept)
+      ↔ ((takeBelow width tag s m addresses .put ≡ takeBelow width tag s m addresses .take) × (takeBelow width tag s m addresses .fault ≡ false))
+  -- a take leaves a fault marked exactly when one was, or its stamp is ahead of the clock
+  pub fault-marked : (s : State) (e : Entry) → (takeEntry tag s e .fault ≡ true) ↔ ((s .fault ≡ true) ⊎ (s .clock < e .stamp))
+  -- lawful filter records and lawful bytes stand one to one; the comparison is exact
+  pub filters : OneToOne
+  pub comparison : Compared
 
 abbrev pub ThirdDemand : Type 0
 ThirdDemand = Demand3 width tag

@@ -3,13 +3,14 @@
 use mathlib.Core.Path.{_≡_}
 use mathlib.Core.List.{List, [], _∷_}
 use mathlib.Core.Logic.{_↔_}
+use mathlib.Core.Option.{some}
 use Prim.Native.Nat.{ℕ}
 use Rattle.refusal.specs.Refusal.{Row, Given, Filled, filled}
 use Rattle.state.specs.Sizes.{width}
 use Rattle.state.specs.Start.{none, startRows, started, startOf}
 use Rattle.state.specs.Step.{Seen, seen}
 use Rattle.state.specs.Moves.{addRows, useRows, removeRows, lookRows, lowestRows, addOf, loadOf, storeOf, removeOf, lookOf, lowestOf, freeNumber}
-use Rattle.state.specs.Check.{checkRows, checkOf}
+use Rattle.state.specs.Check.{verdictNumber, checkRows, checkOf}
 use Rattle.state.specs.declared.State.{State}
 use Rattle.state.specs.declared.Verdict.the-variants.{Nothing}
 use Rattle.state.specs.declared.Free.the-variants.{Full}
@@ -36,6 +37,8 @@ pub record Numbers : Type 0 where
   pub store : (s : State) (m : List ℕ) (a : ℕ) (v : List ℕ) → Exactly (useRows width s m a v) (storeOf width tag s m a v .seen) s m []
   pub remove : (s : State) (m : List ℕ) (a : ℕ) → Exactly (removeRows width s m a) (removeOf width tag s m a .seen) s m []
   pub check : (s : State) (m : List ℕ) → Exactly (checkRows width s m) (checkOf width tag s m .seen) s m []
+  -- a check that is done gives 0 with a verdict, and one that is refused gives none
+  pub check-verdict : (s : State) (m : List ℕ) → (checkOf width tag s m .seen .number ≡ 0) ↔ (verdictNumber (checkOf width tag s m .seen .verdict) ≡ some 0)
   -- a look gives no number: no bytes exactly where a row holds
   pub look : (m : List ℕ) (a : ℕ) → (lookOf width m a ≡ []) ↔ (Given 0 (lookRows width m a) → ⊥)
   pub lowest-free : (n : ℕ) (ws : List ℕ) → (freeNumber (lowestOf ws) ≡ n) ↔ Given n (lowestRows ws)

@@ -39,7 +39,7 @@ pub record Refused (n : ℕ) (rows : List Row) : Type 0 where
   pub holds : row .holds ≡ true
   pub given : row .number ≡ n
 
--- "each is given exactly when its condition holds and no earlier one does": 0 where none holds
+-- n is the number given: that of the first row that holds, or 0 where none does
 abbrev pub Given : ℕ → List Row → Type 0
 Given n rows = ((n ≡ 0) × NoneHolds rows) ⊎ Refused n rows
 

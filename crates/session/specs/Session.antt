@@ -25,7 +25,7 @@ use Rattle.multiset.specs.Tag.{tag}
 abbrev pub filledWith : ℕ → List ℕ
 filledWith b = replicate valueSize b
 
--- `spoil` writes past the checker, whatever the state is: 0 or 2
+-- a cell overwritten behind the state's back, closed or not: 0, or 2 for an address past the last
 unfoldable pub spoilOf : State → List ℕ → ℕ → ℕ → ℕ → Seen
 spoilOf s m a v t =
     let x = fills (addressRow a ∷ []) (writeCell width m a (filledWith v) t) m in
@@ -35,11 +35,11 @@ spoilOf s m a v t =
 abbrev pub printed : List (List ℕ) → List ℕ
 printed ws = spaced ws ++ (newline ∷ [])
 
--- a load that worked adds its first byte
+-- the byte that a load shows where it is done
 abbrev pub firstByte : Seen → List (List ℕ)
 firstByte x = done (x .number) (hex (getD (x .out) 0 0) ∷ []) []
 
--- a check that worked prints its verdict in place of the number
+-- what a check shows: its verdict, or its number where it has none
 abbrev pub verdictWord : ℕ → Verdict → List ℕ
 verdictWord n Accept = ascii "accept"
 verdictWord n Reject = ascii "reject"

@@ -132,7 +132,7 @@ module _ (w : ℕ) (tag : List ℕ → Entry → List ℕ) (s : State) (m : List
   unfolding opening
   opening-put a = refl
 
-  -- rejected: the store is unchanged, and the state is as at entry but closed
+  -- rejected: the state given, closed, and the store as it was
   pub rejected-closes : let r = rejection w tag s m .seen in
       (r .state .closed ≡ true) × (r .state .fault ≡ s .fault) × (r .state .clock ≡ s .clock) × (r .state .put ≡ s .put) × (r .state .take ≡ s .take) × (r .state .marks ≡ s .marks)
       × (r .store ≡ m)

@@ -1,6 +1,7 @@
 -- 01, Check. Over the stamp's width w and the tag. Assumes nothing.
 use mathlib.Core.Bool.{Bool, not, _&&_}
 use mathlib.Core.List.{List, [], _∷_, _++_}
+use mathlib.Core.Option.{Option, none, some}
 use Prim.Native.Nat.{ℕ, zero, suc}
 use Rattle.refusal.specs.Refusal.{Row, choose}
 use Rattle.state.specs.Sizes.{addresses}
@@ -13,6 +14,12 @@ use Rattle.state.specs.declared.State.{State}
 use Rattle.state.specs.declared.Verdict.{Verdict}
 use Rattle.state.specs.declared.Verdict.the-variants.{Accept, Reject, Nothing}
 
+-- the number of each verdict: a check that is refused says nothing, and its number stands beside it
+abbrev pub verdictNumber : Verdict → Option ℕ
+verdictNumber Accept = some 0
+verdictNumber Reject = some 0
+verdictNumber Nothing = none
+
 unfoldable pub checkRows : ℕ → State → List ℕ → List Row
 checkRows w s m = shutRow s ∷ storeRow w m ∷ []
 
@@ -21,7 +28,7 @@ unfoldable pub inUse : {A : Type 0} → (ℕ → A) → List ℕ → ℕ → Lis
 inUse x ws zero = []
 inUse x ws (suc n) = inUse x ws n ++ choose (used ws n) (x n ∷ []) []
 
--- both hashes begin empty again, the clock becomes 1
+-- a new period: empty hashes, and the clock at 1
 unfoldable pub opened : State → State
 opened s =
     record { key = s .key; put = emptyHash; take = emptyHash; clock = 1; fault = s .fault; closed = s .closed; marks = s .marks }
@@ -57,12 +64,12 @@ module _ (w : ℕ) (tag : List ℕ → Entry → List ℕ) where
   openBelow s m zero = opened s
   openBelow s m (suc n) = choose (used (s .marks) n) (putEntry tag (openBelow s m n) (opening w m n)) (openBelow s m n)
 
-  -- accepted: the puts belong to the period that now begins, the takes to the one that ends
+  -- accepted: between the takes, which end a period, and the puts, which begin the next
   unfoldable pub acceptance : State → List ℕ → Step
   acceptance s m =
       step (seen 0 Accept (openBelow s m addresses) (putBelow w (s .marks) m addresses) []) (takes w s m ++ (accepted ∷ puts w s m))
 
-  -- rejected: the store is unchanged, and the state is as at entry but closed
+  -- rejected: the state given, closed, and the store as it was
   unfoldable pub rejection : State → List ℕ → Step
   rejection s m = step (seen 0 Reject (shut s) m []) (takes w s m)
 

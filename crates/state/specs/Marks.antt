@@ -1,4 +1,4 @@
--- 01, "1,024 marks of addresses in use in sixteen 64-bit words": the mark of address a is digit a % 64 of word a / 64.
+-- 01, The trusted state: its marks. That of address a is digit a % 64 of word a / 64, the lowest digit first.
 -- Assumes nothing.
 use mathlib.Core.Bool.{Bool, true, false}
 use mathlib.Core.List.{List}

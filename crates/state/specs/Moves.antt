@@ -66,7 +66,7 @@ module _ (w : ℕ) (tag : List ℕ → Entry → List ℕ) where
   unfoldable pub addOf : State → List ℕ → ℕ → List ℕ → Step
   addOf s m a v = call (addRows w s m a v) s m [] (added s m a v)
 
-  -- Load: take, put the same value back, copy it out
+  -- Load: a take, and a put of the value read, which is handed out
   unfoldable pub loaded : State → List ℕ → ℕ → Step
   loaded s m a =
       let v = valueAt w m a in
@@ -77,7 +77,7 @@ module _ (w : ℕ) (tag : List ℕ → Entry → List ℕ) where
   unfoldable pub loadOf : State → List ℕ → ℕ → List ℕ → Step
   loadOf s m a o = call (useRows w s m a o) s m o (loaded s m a)
 
-  -- Store: take, put the new value
+  -- Store: a take, and a put of another value
   unfoldable pub stored : State → List ℕ → ℕ → List ℕ → Step
   stored s m a v =
       let t = takeEntry tag s (entryAt w m a) in
@@ -87,7 +87,7 @@ module _ (w : ℕ) (tag : List ℕ → Entry → List ℕ) where
   unfoldable pub storeOf : State → List ℕ → ℕ → List ℕ → Step
   storeOf s m a v = call (useRows w s m a v) s m [] (stored s m a v)
 
-  -- Remove: take; fill the cell with zeros; clear the mark. The clock stays
+  -- Remove: a take, zeros in the cell, the mark cleared; the clock as it was
   unfoldable pub removed : State → List ℕ → ℕ → Step
   removed s m a =
       let t = takeEntry tag s (entryAt w m a) in

@@ -1,4 +1,4 @@
--- 01, "The multiset hash": definition 4.4 of source document 001, less its nonce.
+-- 01, The multiset hash: the MSet-XOR hash of the source (its definition 4.4) with no nonce.
 -- Assumes nothing.
 use mathlib.Core.Bool.{Bool, true, false, _&&_}
 use mathlib.Core.List.{List, [], _∷_, _++_, map}

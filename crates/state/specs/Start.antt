@@ -11,12 +11,12 @@ use Rattle.state.specs.Multiset.{emptyHash}
 use Rattle.state.specs.declared.State.{State}
 use Rattle.state.specs.declared.Started.{Started}
 
--- hashes empty, clock 0, no marks
+-- nothing put, taken or marked, and the clock at 0
 unfoldable pub fresh : List ℕ → Bool → State
 unfolding emptyHash
 fresh k c = record { key = k; put = emptyHash; take = emptyHash; clock = 0; fault = false; closed = c; marks = replicate 16 0 }
 
--- the closed state with all else zero
+-- what a refused start gives: closed, and zeros everywhere else
 unfoldable pub none : State
 unfolding fresh keySize
 none = fresh (replicate keySize 0) true

@@ -68,7 +68,7 @@ impl State {
 
     pub const CEILING: u16 = 65535;
 
-    // An open state under a key of 32 bytes; else number 8 and the closed state with all else zero.
+    // An open state under a key of 32 bytes; for any other key 8, and a closed state of zeros.
     pub fn start(key: &[u8]) -> Started
         ensures { λ r. ⌜ r ≡ startOf (now (key .entry)) ⌝ }
     {

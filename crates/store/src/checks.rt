@@ -32,7 +32,7 @@ pub fn agrees(s: State) -> bool
     multiset::same(p, t) && !s.fault
 }
 
-// Both hashes begin empty again; the clock becomes 1.
+// A new period: empty hashes, and the clock at 1.
 fn opened(s: State) -> State
     ensures { λ r. ⌜ r ≡ opened s ⌝ }
 {
@@ -47,7 +47,7 @@ fn opened(s: State) -> State
     r
 }
 
-// A new period: every address in use is put with its value and stamp 1.
+// The puts that begin a period: at each address in use its value, with stamp 1.
 pub fn put_all(s: State, store: &mut [u8]) -> State
     requires { ⌜ length (now store) ≡ storeSize width ⌝ }
     ensures { λ r. ⌜ (r ≡ openBelow width tag s (now (store .entry)) addresses)

@@ -75,7 +75,7 @@ pub fn added(s: State, store: &mut [u8], a: usize, value: &[u8]) -> State
     r
 }
 
-// Load: take, put the same value back, copy it out.
+// Load: a take, and a put of the value read, which is handed out.
 pub fn loaded(s: State, store: &mut [u8], a: usize, out: &mut [u8]) -> State
     requires { ⌜ (length (now store) ≡ storeSize width) × (a < addresses) × (length (now out) ≡ valueSize) × (s .clock < ceiling width) ⌝ }
     ensures { λ r. ⌜ seen 0 Nothing r (now (store .exit)) (now (out .exit)) ≡ loaded width tag s (now (store .entry)) a .seen ⌝ }
@@ -87,7 +87,7 @@ pub fn loaded(s: State, store: &mut [u8], a: usize, out: &mut [u8]) -> State
     r
 }
 
-// Store: take, put the new value.
+// Store: a take, and a put of another value.
 pub fn stored(s: State, store: &mut [u8], a: usize, value: &[u8]) -> State
     requires { ⌜ (length (now store) ≡ storeSize width) × (a < addresses) × (length (now value) ≡ valueSize) × (s .clock < ceiling width) ⌝ }
     ensures { λ r. ⌜ seen 0 Nothing r (now (store .exit)) [] ≡ stored width tag s (now (store .entry)) a (now (value .entry)) .seen ⌝ }
@@ -98,7 +98,7 @@ pub fn stored(s: State, store: &mut [u8], a: usize, value: &[u8]) -> State
     put(t, store, a, v)
 }
 
-// Remove: take; fill the cell with zeros; clear the mark.
+// Remove: a take, zeros in the cell, the mark cleared.
 pub fn removed(s: State, store: &mut [u8], a: usize) -> State
     requires { ⌜ (length (now store) ≡ storeSize width) × (a < addresses) ⌝ }
     ensures { λ r. ⌜ seen 0 Nothing r (now (store .exit)) [] ≡ removed width tag s (now (store .entry)) a .seen ⌝ }

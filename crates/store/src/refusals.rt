@@ -1,4 +1,4 @@
-// The number of each call: its rows of document 01's table, in the call's order.
+// The number of each call: its rows of the table of numbers, in the call's order.
 use state::State;
 ghost use mathlib.Core.Path.{_≡_};
 ghost use Rattle.refusal.specs.Refusal.{when, first};
