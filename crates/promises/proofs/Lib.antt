@@ -1,4 +1,3 @@
-pub mod Outcomes
 pub mod Numbers
 pub mod Examples
 pub mod Demands

@@ -9,12 +9,11 @@ use Prim.Native.Nat.{ℕ, zero, suc}
 use native.Mathlib.Omega.{arith}
 use Rattle.refusal.specs.Refusal.{Row, first, choose, done, Given, Filled, filled, fills}
 use Rattle.refusal.proofs.Exact.{exactly}
-use Rattle.refusal.proofs.Passed.{done-zero, done-other}
+use Rattle.refusal.proofs.Passed.{done-other}
 use lib.Dec.{eqb}
 use lib.ListN.{length}
 use Rattle.state.specs.Sizes.{width, addresses, valueSize}
 use Rattle.state.specs.Marks.{lowestFrom}
-use Rattle.state.specs.Cells.{valueAt}
 use Rattle.state.specs.Start.{none, startRows, startOf}
 use Rattle.state.specs.Step.{Seen, seen, Step}
 use Rattle.state.specs.Moves.{call, added, loaded, stored, removed, addOf, loadOf, storeOf, removeOf, lookOf, lowestOf, freeNumber, addRows, useRows, removeRows, lookRows, lowestRows}
@@ -22,7 +21,7 @@ use Rattle.state.specs.Check.{verdictNumber, checkRows, agrees, takeBelow, acce
 use Rattle.state.specs.declared.State.{State}
 use Rattle.state.specs.declared.Verdict.the-variants.{Nothing}
 use Rattle.state.specs.declared.Free.the-variants.{At, Full}
-use Rattle.state.proofs.Ready.{look-ready}
+use Rattle.state.proofs.Ready.{look-ready, look-done, look-refused}
 use Rattle.state.proofs.Cells.{value-length}
 use Rattle.multiset.specs.Tag.{tag}
 use Rattle.sha256.specs.Sha256.{digestOf}
@@ -72,24 +71,18 @@ said false x y e h = h
 fills-exactly : (rows : List Row) (new old : List ℕ) → FillsExactly rows (fills rows new old) old
 fills-exactly rows new old = record { number = λ n. rows-exactly rows _ n refl; unchanged = λ h. done-other (first rows) new old h }
 
--- a look that no row refuses gives 28 bytes
+look-size : (m : List ℕ) (a : ℕ) → Given 0 (lookRows width m a) → length (lookOf width m a) ≡ 28
+unfolding valueSize
+look-size m a g =
+    let z = exactly 0 (lookRows width m a) .0 g in
+    let r = look-ready width m a z in
+    ap length (look-done width m a z .0) ∙ value-length width m a (r .1) (r .0)
+
 look-exactly : (m : List ℕ) (a : ℕ) → (lookOf width m a ≡ []) ↔ (Given 0 (lookRows width m a) → ⊥)
-unfolding lookOf valueSize
-look-exactly m a = (there, back)
-  where
-    rows : List Row
-    rows = lookRows width m a
-
-    there : done (first rows) (valueAt width m a) [] ≡ [] → Given 0 rows → ⊥
-    there e g =
-        let z = exactly 0 rows .0 g in
-        let r = look-ready width m a z in
-        let l : length (valueAt width m a) ≡ 0 = ap length (sym (done-zero (first rows) (valueAt width m a) [] z) ∙ e) in
-        let n : length (valueAt width m a) ≡ valueSize = value-length width m a (r .1) (r .0) in
-        omega arith
-
-    back : (Given 0 rows → ⊥) → done (first rows) (valueAt width m a) [] ≡ []
-    back h = done-other (first rows) (valueAt width m a) [] (λ z. h (exactly 0 rows .1 z))
+look-exactly m a = (
+  (λ e g. let n = look-size m a g in let l : length (lookOf width m a) ≡ 0 = ap length e in omega arith),
+  (λ h. look-refused width m a (λ z. h (exactly 0 (lookRows width m a) .1 z)) .0),
+)
 
 -- an address where the row does not hold, and none where it does
 free-number : (b : Bool) (a : ℕ) → freeNumber (done (choose b 9 0) (At a) Full) ≡ choose b 9 0
@@ -112,6 +105,7 @@ numbers = record {
       let y = rejection width tag s m in
       let b = agrees (takeBelow width tag s m addresses) in
       check-verdict (first (checkRows width s m)) s m (choose b x y) (check-number b x y refl refl) (said b x y refl refl);
+  look-size = look-size;
   look = look-exactly;
   lowest-free = λ n ws. rows-exactly (lowestRows ws) _ n (free-number (eqb (lowestFrom addresses 0 ws) addresses) (lowestFrom addresses 0 ws));
   digest = λ m out. fills-exactly _ _ out;

@@ -1,4 +1,3 @@
 pub mod Examples
 pub mod Numbers
-pub mod Outcomes
 pub mod Demands

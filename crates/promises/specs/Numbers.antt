@@ -5,6 +5,7 @@ use mathlib.Core.List.{List, [], _∷_}
 use mathlib.Core.Logic.{_↔_}
 use mathlib.Core.Option.{some}
 use Prim.Native.Nat.{ℕ}
+use lib.ListN.{length}
 use Rattle.refusal.specs.Refusal.{Row, Given, Filled, filled}
 use Rattle.state.specs.Sizes.{width}
 use Rattle.state.specs.Start.{none, startRows, started, startOf}
@@ -39,7 +40,8 @@ pub record Numbers : Type 0 where
   pub check : (s : State) (m : List ℕ) → Exactly (checkRows width s m) (checkOf width tag s m .seen) s m []
   -- a check that is done gives 0 with a verdict, and one that is refused gives none
   pub check-verdict : (s : State) (m : List ℕ) → (checkOf width tag s m .seen .number ≡ 0) ↔ (verdictNumber (checkOf width tag s m .seen .verdict) ≡ some 0)
-  -- a look gives no number: no bytes exactly where a row holds
+  -- a look gives no number: 28 bytes where no row holds, and no bytes exactly where one does
+  pub look-size : (m : List ℕ) (a : ℕ) → Given 0 (lookRows width m a) → length (lookOf width m a) ≡ 28
   pub look : (m : List ℕ) (a : ℕ) → (lookOf width m a ≡ []) ↔ (Given 0 (lookRows width m a) → ⊥)
   pub lowest-free : (n : ℕ) (ws : List ℕ) → (freeNumber (lowestOf ws) ≡ n) ↔ Given n (lowestRows ws)
   pub digest : (m out : List ℕ) → FillsExactly (digestRows m out) (digestOf m out) out

@@ -4,15 +4,16 @@ use mathlib.Core.Path.{_≡_}
 use mathlib.Core.Bool.{Bool, true, false, not}
 use mathlib.Core.List.{List, [], _∷_}
 use mathlib.Core.Logic.{_≢_}
-use Prim.Native.Nat.{ℕ, _<_}
+use Prim.Native.Nat.{ℕ, _*_, _<_}
 use lib.Dec.{T}
 use lib.ListN.{length}
 use Rattle.refusal.specs.Refusal.{Row, when, first, NoneHolds}
 use Rattle.refusal.proofs.Passed.{done-zero, done-other, numbered, none-holds}
-use Rattle.state.specs.Sizes.{addresses, valueSize, storeSize, ceiling}
+use Rattle.state.specs.Sizes.{addresses, valueSize, cellSize, storeSize, ceiling}
 use Rattle.state.specs.Marks.{used}
+use Rattle.state.specs.Cells.{valueAt}
 use Rattle.state.specs.Step.{seen, Step, step}
-use Rattle.state.specs.Moves.{shutRow, storeRow, addressRow, bufferRow, clockRow, addRows, useRows, removeRows, lookRows, call}
+use Rattle.state.specs.Moves.{shutRow, storeRow, addressRow, bufferRow, clockRow, addRows, useRows, removeRows, lookRows, call, lookOf, lookFrom}
 use Rattle.state.specs.Check.{checkRows}
 use Rattle.state.specs.declared.State.{State}
 use Rattle.state.specs.declared.Verdict.the-variants.{Nothing}
@@ -40,6 +41,14 @@ pub record Timed (w : ℕ) (s : State) (b : List ℕ) : Type 0 where
 pub look-ready : (w : ℕ) (m : List ℕ) (a : ℕ) → first (lookRows w m a) ≡ 0 → (length m ≡ storeSize w) × (a < addresses)
 unfolding lookRows NoneHolds
 look-ready w m a e = let p = none-holds (lookRows w m a) tt e in (eqb-true _ _ (not-false _ (p .0)), ltb-true _ _ (not-false _ (p .1 .0)))
+
+pub look-done : (w : ℕ) (m : List ℕ) (a : ℕ) → first (lookRows w m a) ≡ 0 → (lookOf w m a ≡ valueAt w m a) × (lookFrom w m a ≡ cellSize w * a)
+unfolding lookOf lookFrom
+look-done w m a e = (done-zero _ _ _ e, done-zero _ _ _ e)
+
+pub look-refused : (w : ℕ) (m : List ℕ) (a : ℕ) → (first (lookRows w m a) ≡ 0 → ⊥) → (lookOf w m a ≡ []) × (lookFrom w m a ≡ 0)
+unfolding lookOf lookFrom
+look-refused w m a h = (done-other _ _ _ h, done-other _ _ _ h)
 
 module _ (w : ℕ) (s : State) (m : List ℕ) where
   pub check-ready : first (checkRows w s m) ≡ 0 → (s .closed ≡ false) × (length m ≡ storeSize w)

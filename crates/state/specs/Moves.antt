@@ -2,11 +2,11 @@
 -- Over the stamp's width w and the tag. Assumes nothing.
 use mathlib.Core.Bool.{Bool, true, false, not}
 use mathlib.Core.List.{List, [], _∷_}
-use Prim.Native.Nat.{ℕ}
+use Prim.Native.Nat.{ℕ, _*_}
 use lib.Dec.{eqb, ltb}
 use lib.ListN.{length, replicate}
 use Rattle.refusal.specs.Refusal.{Row, when, first, done}
-use Rattle.state.specs.Sizes.{addresses, valueSize, storeSize, ceiling}
+use Rattle.state.specs.Sizes.{addresses, valueSize, cellSize, storeSize, ceiling}
 use Rattle.state.specs.Marks.{used, marked, unmarked, lowestFrom}
 use Rattle.state.specs.Cells.{Entry, valueAt, entryAt, writeCell, writeEntry}
 use Rattle.state.specs.Step.{Event, took, put, answered, set, dropped, Seen, seen, Step, step, withMarks, next, takeEntry, putEntry}
@@ -99,6 +99,10 @@ module _ (w : ℕ) (tag : List ℕ → Entry → List ℕ) where
 -- Look: the value's bytes in the store, or no bytes
 unfoldable pub lookOf : ℕ → List ℕ → ℕ → List ℕ
 lookOf w m a = done (first (lookRows w m a)) (valueAt w m a) []
+
+-- where in the store that part begins: at the cell, and a part of no bytes at the store's first byte
+unfoldable pub lookFrom : ℕ → List ℕ → ℕ → ℕ
+lookFrom w m a = done (first (lookRows w m a)) (cellSize w * a) 0
 
 -- Lowest free, and the numbers of its answers
 abbrev pub lowestRows : List ℕ → List Row

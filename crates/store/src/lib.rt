@@ -12,10 +12,12 @@ use state::State;
 use state::Verdict;
 ghost use mathlib.Core.Path.{_≡_};
 ghost use mathlib.Core.List.{[]};
+ghost use denote.Ref.{ptr};
+ghost use Rattle.lent.specs.Lent.{place};
 ghost use Rattle.state.specs.Sizes.{width};
 ghost use Rattle.state.specs.Marks.{countOf};
 ghost use Rattle.state.specs.Step.{seen};
-ghost use Rattle.state.specs.Moves.{addOf, loadOf, storeOf, removeOf, lookOf, lowestOf};
+ghost use Rattle.state.specs.Moves.{addOf, loadOf, storeOf, removeOf, lookOf, lookFrom, lowestOf};
 ghost use Rattle.state.specs.Check.{checkOf};
 ghost use Rattle.state.specs.declared.Verdict.the-variants.{Nothing};
 ghost use Rattle.multiset.specs.Tag.{tag};
@@ -102,7 +104,7 @@ pub fn check(s: State, store: &mut [u8]) -> Checked
 
 // The value's bytes in the lent store itself; no bytes where the store's size or the address is refused.
 pub fn look(store: &[u8], a: usize) -> &[u8]
-    ensures { λ r. ⌜ now r ≡ lookOf width (now (store .entry)) a ⌝ }
+    ensures { λ r. ⌜ (now r ≡ lookOf width (now (store .entry)) a) × (ptr r ≡ place (store .entry) (lookFrom width (now (store .entry)) a)) ⌝ }
 {
     if refusals::look(store, a) == 0 {
         return cells::value_part(store, a);

@@ -1,9 +1,8 @@
--- `store::look` meets its contract: the part lent is the value's, or has no bytes. Assumes nothing.
+-- `store::look` meets its contract: the part lent is the value's, in place, or has no bytes. Assumes nothing.
 use borrow.Author.Needs.{needs}
-use mathlib.Core.Path.{sym, _∙_}
-use Rattle.state.specs.Moves.{lookOf}
-use Rattle.refusal.proofs.Passed.{done-zero, done-other}
-use Rattle.state.proofs.Ready.{look-ready}
+use mathlib.Core.Path.{sym, ap, _∙_}
+use Rattle.lent.specs.Lent.{place}
+use Rattle.state.proofs.Ready.{look-ready, look-done, look-refused}
 use Rattle.store.proofs.look.Statement.{statement}
 use Rattle.store.proofs.look.Tie as tie
 
@@ -14,12 +13,19 @@ value-part-requires c κs =
     look-ready 2 (x .store .now) (x .a) (sym (b .look .ensures) ∙ c .if1 .taken)
 
 returns : tie.Need-returns
-unfolding lookOf
-returns c = c .value-part .ensures ∙ sym (done-zero _ _ _ (sym (c .before .before .look .ensures) ∙ c .before .if1 .taken))
+returns c =
+    let b = c .before .before in
+    let x = b .before .before .args in
+    let p = c .value-part .ensures in
+    let q = look-done 2 (x .store .now) (x .a) (sym (b .look .ensures) ∙ c .before .if1 .taken) in
+    (p .0 ∙ sym (q .0), p .1 ∙ sym (ap (place (x .store)) (q .1)))
 
 returns-2 : tie.Need-returns-2
-unfolding lookOf
-returns-2 c = sym (done-other _ _ _ (λ e. c .before .if1 .left (c .before .before .look .ensures ∙ e)))
+returns-2 c =
+    let b = c .before .before in
+    let x = b .before .before .args in
+    let q = look-refused 2 (x .store .now) (x .a) (λ e. c .before .if1 .left (b .look .ensures ∙ e)) in
+    (sym (q .0), sym (ap (place (x .store)) (q .1)))
 
 pub look-spec : {M : Type 1} → statement M
 look-spec =

@@ -16,7 +16,7 @@ returns c =
     let x = c .before .before .before .before .before in
     let m = x .args .store .now in
     let a = x .args .a in
-    c .before .copy .ensures ∙ ap (copied (replicate 28 0)) (c .before .before .value-part .ensures)
+    c .before .copy .ensures ∙ ap (copied (replicate 28 0)) (c .before .before .value-part .ensures .0)
     ∙ copied-all (replicate 28 0) (valueAt 2 m a) (sym (value-length 2 m a (x .pre .1) (x .pre .0)))
 
 pub value-at-spec : {M : Type 1} → statement M

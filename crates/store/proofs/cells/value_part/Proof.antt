@@ -1,6 +1,6 @@
--- `store::cells::value_part` meets its contract: the cell lies in the store, and the value's bytes are its first. Assumes nothing.
+-- `store::cells::value_part` meets its contract: the cell lies in the store, and the value's bytes are its first, in place. Assumes nothing.
 use borrow.Author.Needs.{needs}
-use mathlib.Core.Path.{_≡_}
+use mathlib.Core.Path.{_≡_, refl}
 use Prim.Native.Nat.{_+_, _-_, _*_}
 use native.Mathlib.Omega.{arith}
 use Rattle.state.specs.Sizes.{addresses, valueSize, cellSize, storeSize}
@@ -13,7 +13,7 @@ unfolding valueSize cellSize valueAt
 returns c =
     let a = c .before .args .a in
     let e : 30 * a + 28 - 30 * a ≡ 28 = omega arith in
-    rw e
+    (rw e, refl)
 
 pub value-part-spec : {M : Type 1} → statement M
 unfolding addresses valueSize cellSize storeSize

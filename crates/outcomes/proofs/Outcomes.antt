@@ -1,0 +1,69 @@
+-- A contract says what is seen of an outcome, and from what is seen the outcome is made again. Assumes nothing.
+use mathlib.Core.Path.{_≡_, refl, sym, ap, _∙_}
+use Prim.Native.Nat.{ℕ}
+use Rattle.refusal.specs.Refusal.{Filled}
+use Rattle.state.specs.Step.{Seen}
+use Rattle.state.specs.declared.Moved.{Moved}
+use Rattle.state.specs.declared.Checked.{Checked}
+use Rattle.outcomes.specs.Outcomes.{Tight, Outcomes}
+
+-- from y, which is seen, the result and what the parameters hold at the end
+again : {Y R L : Type 0} (result : Y → R) (lasts : Y → L) {y x x′ : Y} → x ≡ y → x′ ≡ y → (result x ≡ result x′) × (lasts x ≡ lasts x′)
+again result lasts p q = (ap result (p ∙ sym q), ap lasts (p ∙ sym q))
+
+-- a function that writes nothing
+plain : {R L : Type 0} {y r r′ : R} {l : L} → r ≡ y → r′ ≡ y → (r ≡ r′) × (l ≡ l)
+plain p q = (p ∙ sym q, refl)
+
+abbrev moved : Seen → Moved
+moved y = record { number = y .number; state = y .state }
+
+abbrev checked : Seen → Checked
+checked y = record { number = y .number; verdict = y .verdict; state = y .state }
+
+abbrev number : Filled → ℕ
+number y = y .number
+
+pub outcomes : Outcomes
+outcomes = record {
+  start = record { any = λ κs a. tt; one = λ κs a r r′ l l′. plain };
+  add = record { any = λ κs a. tt; one = λ κs a r r′ l l′. again moved (λ y. (tt, (y .store, (tt, (tt, tt))))) };
+  load = record { any = λ κs a. tt; one = λ κs a r r′ l l′. again moved (λ y. (tt, (y .store, (tt, (y .out, tt))))) };
+  store = record { any = λ κs a. tt; one = λ κs a r r′ l l′. again moved (λ y. (tt, (y .store, (tt, (tt, tt))))) };
+  remove = record { any = λ κs a. tt; one = λ κs a r r′ l l′. again moved (λ y. (tt, (y .store, (tt, tt)))) };
+  check = record { any = λ κs a. tt; one = λ κs a r r′ l l′. again checked (λ y. (tt, (y .store, tt))) };
+  count = record { any = λ κs a. tt; one = λ κs a r r′ l l′. plain };
+  lowest-free = record { any = λ κs a. tt; one = λ κs a r r′ l l′. plain };
+  digest = record { any = λ κs a. tt; one = λ κs a r r′ l l′. again number (λ y. (tt, (y .out, tt))) };
+  mac = record { any = λ κs a. tt; one = λ κs a r r′ l l′. again number (λ y. (tt, (tt, (y .out, tt)))) };
+  pack = record { any = λ κs a. tt; one = λ κs a r r′ l l′. again number (λ y. (tt, (y .out, tt))) };
+  unpack = record { any = λ κs a. tt; one = λ κs a r r′ l l′. plain };
+  compare = record { any = λ κs a. tt; one = λ κs a r r′ l l′. plain };
+  copy = record { any = λ κs a. tt; one = λ κs a r r′ l l′. again (λ y. tt) (λ y. (y, (tt, tt))) };
+  round-constants = record { any = λ κs a. tt; one = λ κs a r r′ l l′. plain };
+  initial-hash = record { any = λ κs a. tt; one = λ κs a r r′ l l′. plain };
+  compressed = record { any = λ κs a. tt; one = λ κs a r r′ l l′. plain };
+  absorb = record { any = λ κs a. tt; one = λ κs a r r′ l l′. plain };
+  finish = record { any = λ κs a. tt; one = λ κs a r r′ l l′. plain };
+  hash-bytes = record { any = λ κs a. tt; one = λ κs a r r′ l l′. plain };
+  hmac-tag = record { any = λ κs a. tt; one = λ κs a r r′ l l′. plain };
+  used = record { any = λ κs a. tt; one = λ κs a r r′ l l′. plain };
+  with-mark = record { any = λ κs a. tt; one = λ κs a r r′ l l′. plain };
+  without-mark = record { any = λ κs a. tt; one = λ κs a r r′ l l′. plain };
+  marks-count = record { any = λ κs a. tt; one = λ κs a r r′ l l′. plain };
+  lowest = record { any = λ κs a. tt; one = λ κs a r r′ l l′. plain };
+  next-used = record { any = λ κs a. tt; one = λ κs a r r′ l l′. plain };
+  message = record { any = λ κs a. tt; one = λ κs a r r′ l l′. plain };
+  tag = record { any = λ κs a. tt; one = λ κs a r r′ l l′. plain };
+  with-tag = record { any = λ κs a. tt; one = λ κs a r r′ l l′. plain };
+  same = record { any = λ κs a. tt; one = λ κs a r r′ l l′. plain };
+  find = record { any = λ κs a. tt; one = λ κs a r r′ l l′ p q. plain (p .0) (q .0) };
+  parse = record { any = λ κs a. tt; one = λ κs a r r′ l l′. plain };
+  run = record { any = λ κs a. tt; one = λ κs a r r′ l l′. again (λ y. y .at) (λ y. (tt, (y .bytes, tt))) };
+  speed-digest = record { any = λ κs a. tt; one = λ κs a r r′ l l′. again number (λ y. (tt, (y .out, tt))) };
+  speed-mac = record { any = λ κs a. tt; one = λ κs a r r′ l l′. again number (λ y. (tt, (tt, (y .out, tt)))) };
+  speed-tag = record { any = λ κs a. tt; one = λ κs a r r′ l l′. again (λ y. tt) (λ y. (tt, (tt, (y, tt)))) };
+  speed-checks = record { any = λ κs a. tt; one = λ κs a r r′ l l′ p q. (p .0 ∙ sym (q .0), ap (λ m. (tt, (m, (tt, (tt, (tt, tt)))))) (p .1 ∙ sym (q .1))) };
+  look-any = λ κs a. tt;
+  look = λ κs a r r′ e e′ p q. (p .0 ∙ sym (q .0), p .1 ∙ sym (q .1));
+}

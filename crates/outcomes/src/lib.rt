@@ -1,0 +1,1 @@
+// No code: one outcome for each public function.
