@@ -53,6 +53,11 @@ outcomes = record {
   marks-count = record { any = λ κs a. tt; one = λ κs a r r′ l l′. plain };
   lowest = record { any = λ κs a. tt; one = λ κs a r r′ l l′. plain };
   next-used = record { any = λ κs a. tt; one = λ κs a r r′ l l′. plain };
+  number-of-add = record { any = λ κs a. tt; one = λ κs a r r′ l l′. plain };
+  number-of-use = record { any = λ κs a. tt; one = λ κs a r r′ l l′. plain };
+  number-of-remove = record { any = λ κs a. tt; one = λ κs a r r′ l l′. plain };
+  number-of-check = record { any = λ κs a. tt; one = λ κs a r r′ l l′. plain };
+  number-of-look = record { any = λ κs a. tt; one = λ κs a r r′ l l′. plain };
   message = record { any = λ κs a. tt; one = λ κs a r r′ l l′. plain };
   tag = record { any = λ κs a. tt; one = λ κs a r r′ l l′. plain };
   with-tag = record { any = λ κs a. tt; one = λ κs a r r′ l l′. plain };

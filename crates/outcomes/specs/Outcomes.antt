@@ -33,6 +33,11 @@ use Rattle.marks.proofs.without_mark as WithoutMark
 use Rattle.marks.proofs.count as MarksCount
 use Rattle.marks.proofs.lowest as Lowest
 use Rattle.marks.proofs.next_used as NextUsed
+use Rattle.numbers.proofs.add as NumberOfAdd
+use Rattle.numbers.proofs.use_of as NumberOfUse
+use Rattle.numbers.proofs.remove as NumberOfRemove
+use Rattle.numbers.proofs.check as NumberOfCheck
+use Rattle.numbers.proofs.look as NumberOfLook
 use Rattle.multiset.proofs.message as Message
 use Rattle.multiset.proofs.tag as Tag
 use Rattle.multiset.proofs.with_tag as WithTag
@@ -86,6 +91,11 @@ pub record Outcomes : Type 1 where
   pub marks-count : Tight MarksCount.ended MarksCount.Reads.Asked MarksCount.Reads.Learnt
   pub lowest : Tight Lowest.ended Lowest.Reads.Asked Lowest.Reads.Learnt
   pub next-used : Tight NextUsed.ended NextUsed.Reads.Asked NextUsed.Reads.Learnt
+  pub number-of-add : Tight NumberOfAdd.ended NumberOfAdd.Reads.Asked NumberOfAdd.Reads.Learnt
+  pub number-of-use : Tight NumberOfUse.ended NumberOfUse.Reads.Asked NumberOfUse.Reads.Learnt
+  pub number-of-remove : Tight NumberOfRemove.ended NumberOfRemove.Reads.Asked NumberOfRemove.Reads.Learnt
+  pub number-of-check : Tight NumberOfCheck.ended NumberOfCheck.Reads.Asked NumberOfCheck.Reads.Learnt
+  pub number-of-look : Tight NumberOfLook.ended NumberOfLook.Reads.Asked NumberOfLook.Reads.Learnt
   pub message : Tight Message.ended Message.Reads.Asked Message.Reads.Learnt
   pub tag : Tight Tag.ended Tag.Reads.Asked Tag.Reads.Learnt
   pub with-tag : Tight WithTag.ended WithTag.Reads.Asked WithTag.Reads.Learnt

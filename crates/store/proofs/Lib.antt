@@ -1,3 +1,3 @@
-pub mod Rows
+pub mod Answers
 pub mod Fields
 pub mod Loops

@@ -3,7 +3,6 @@
 mod cells;
 mod checks;
 mod moves;
-mod refusals;
 
 use state::Checked;
 use state::Free;
@@ -27,7 +26,7 @@ pub fn add(s: State, store: &mut [u8], a: usize, value: &[u8]) -> Moved
     ensures { λ r. ⌜ seen (r .number) Nothing (r .state) (now (store .exit)) []
         ≡ addOf width tag s (now (store .entry)) a (now (value .entry)) .seen ⌝ }
 {
-    let number = refusals::add(s, store, a, value);
+    let number = numbers::add(s, store, a, value);
     if number == 0 {
         let state = moves::added(s, store, a, value);
         return Moved { number, state };
@@ -40,7 +39,7 @@ pub fn load(s: State, store: &mut [u8], a: usize, out: &mut [u8]) -> Moved
     ensures { λ r. ⌜ seen (r .number) Nothing (r .state) (now (store .exit)) (now (out .exit))
         ≡ loadOf width tag s (now (store .entry)) a (now (out .entry)) .seen ⌝ }
 {
-    let number = refusals::use_of(s, store, a, out);
+    let number = numbers::use_of(s, store, a, out);
     if number == 0 {
         let state = moves::loaded(s, store, a, out);
         return Moved { number, state };
@@ -53,7 +52,7 @@ pub fn store(s: State, store: &mut [u8], a: usize, value: &[u8]) -> Moved
     ensures { λ r. ⌜ seen (r .number) Nothing (r .state) (now (store .exit)) []
         ≡ storeOf width tag s (now (store .entry)) a (now (value .entry)) .seen ⌝ }
 {
-    let number = refusals::use_of(s, store, a, value);
+    let number = numbers::use_of(s, store, a, value);
     if number == 0 {
         let state = moves::stored(s, store, a, value);
         return Moved { number, state };
@@ -66,7 +65,7 @@ pub fn remove(s: State, store: &mut [u8], a: usize) -> Moved
     ensures { λ r. ⌜ seen (r .number) Nothing (r .state) (now (store .exit)) []
         ≡ removeOf width tag s (now (store .entry)) a .seen ⌝ }
 {
-    let number = refusals::remove(s, store, a);
+    let number = numbers::remove(s, store, a);
     if number == 0 {
         let state = moves::removed(s, store, a);
         return Moved { number, state };
@@ -79,7 +78,7 @@ pub fn check(s: State, store: &mut [u8]) -> Checked
     ensures { λ r. ⌜ seen (r .number) (r .verdict) (r .state) (now (store .exit)) []
         ≡ checkOf width tag s (now (store .entry)) .seen ⌝ }
 {
-    let number = refusals::check(s, store);
+    let number = numbers::check(s, store);
     if number != 0 {
         return Checked {
             number,
@@ -106,7 +105,7 @@ pub fn check(s: State, store: &mut [u8]) -> Checked
 pub fn look(store: &[u8], a: usize) -> &[u8]
     ensures { λ r. ⌜ (now r ≡ lookOf width (now (store .entry)) a) × (ptr r ≡ place (store .entry) (lookFrom width (now (store .entry)) a)) ⌝ }
 {
-    if refusals::look(store, a) == 0 {
+    if numbers::look(store, a) == 0 {
         return cells::value_part(store, a);
     }
     &store[0..0]

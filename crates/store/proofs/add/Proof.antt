@@ -5,7 +5,7 @@ use mir.Syntax.{w16}
 use mir.Val.{Fits}
 use Rattle.state.specs.Moves.{addOf}
 use Rattle.state.proofs.Ready.{add-ready}
-use Rattle.store.proofs.Rows.{clock-below, done-seen, refused-seen}
+use Rattle.store.proofs.Answers.{clock-below, done-seen, refused-seen}
 use Rattle.store.proofs.add.Statement.{statement}
 use Rattle.store.proofs.add.Tie as tie
 

@@ -1,10 +1,10 @@
--- `store::refusals::add` meets its contract: it takes the rows of the table one after another. Assumes nothing.
+-- `numbers::add` meets its contract: it takes the rows of the table one after another. Assumes nothing.
 use borrow.Author.Needs.{needs}
 use Rattle.state.specs.Sizes.{addresses, valueSize, cellSize, storeSize, ceiling}
 use Rattle.state.specs.Moves.{addRows}
-use Rattle.store.proofs.Rows.{rows-first}
-use Rattle.store.proofs.refusals.add.Statement.{statement}
-use Rattle.store.proofs.refusals.add.Tie as tie
+use Rattle.numbers.proofs.Rows.{rows-first}
+use Rattle.numbers.proofs.add.Statement.{statement}
+use Rattle.numbers.proofs.add.Tie as tie
 
 returns : tie.Need-returns
 unfolding addRows addresses valueSize cellSize storeSize ceiling

@@ -1,11 +1,11 @@
-// The number of each call: its rows of the table of numbers, in the call's order.
+// The number that each call of the store gives: its rows of the table of numbers, in the call's order. 0: no row holds, and the call is done.
 use state::State;
 ghost use mathlib.Core.Path.{_≡_};
 ghost use Rattle.refusal.specs.Refusal.{when, first};
 ghost use Rattle.state.specs.Sizes.{width};
 ghost use Rattle.state.specs.Moves.{addRows, useRows, removeRows, lookRows};
 ghost use Rattle.state.specs.Check.{checkRows};
-ghost use Rattle.store.specs.Rows.{after};
+ghost use Rattle.numbers.specs.Rows.{after};
 
 // The number given so far; a further row's where there is none and the row holds.
 fn row(given: u8, number: u8, holds: bool) -> u8

@@ -1,10 +1,10 @@
--- `store::refusals::look` meets its contract: it takes the rows of the table one after another. Assumes nothing.
+-- `numbers::look` meets its contract: it takes the rows of the table one after another. Assumes nothing.
 use borrow.Author.Needs.{needs}
 use Rattle.state.specs.Sizes.{addresses, valueSize, cellSize, storeSize}
 use Rattle.state.specs.Moves.{lookRows}
-use Rattle.store.proofs.Rows.{rows-first}
-use Rattle.store.proofs.refusals.look.Statement.{statement}
-use Rattle.store.proofs.refusals.look.Tie as tie
+use Rattle.numbers.proofs.Rows.{rows-first}
+use Rattle.numbers.proofs.look.Statement.{statement}
+use Rattle.numbers.proofs.look.Tie as tie
 
 returns : tie.Need-returns
 unfolding lookRows addresses valueSize cellSize storeSize

@@ -1,10 +1,10 @@
--- `store::refusals::check` meets its contract: it takes the rows of the table one after another. Assumes nothing.
+-- `numbers::check` meets its contract: it takes the rows of the table one after another. Assumes nothing.
 use borrow.Author.Needs.{needs}
 use Rattle.state.specs.Sizes.{addresses, valueSize, cellSize, storeSize}
 use Rattle.state.specs.Check.{checkRows}
-use Rattle.store.proofs.Rows.{rows-first}
-use Rattle.store.proofs.refusals.check.Statement.{statement}
-use Rattle.store.proofs.refusals.check.Tie as tie
+use Rattle.numbers.proofs.Rows.{rows-first}
+use Rattle.numbers.proofs.check.Statement.{statement}
+use Rattle.numbers.proofs.check.Tie as tie
 
 returns : tie.Need-returns
 unfolding checkRows addresses valueSize cellSize storeSize

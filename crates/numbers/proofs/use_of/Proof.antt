@@ -1,10 +1,10 @@
--- `store::refusals::use_of` meets its contract: it takes the rows of the table one after another. Assumes nothing.
+-- `numbers::use_of` meets its contract: it takes the rows of the table one after another. Assumes nothing.
 use borrow.Author.Needs.{needs}
 use Rattle.state.specs.Sizes.{addresses, valueSize, cellSize, storeSize, ceiling}
 use Rattle.state.specs.Moves.{useRows}
-use Rattle.store.proofs.Rows.{rows-first}
-use Rattle.store.proofs.refusals.use_of.Statement.{statement}
-use Rattle.store.proofs.refusals.use_of.Tie as tie
+use Rattle.numbers.proofs.Rows.{rows-first}
+use Rattle.numbers.proofs.use_of.Statement.{statement}
+use Rattle.numbers.proofs.use_of.Tie as tie
 
 returns : tie.Need-returns
 unfolding useRows addresses valueSize cellSize storeSize ceiling

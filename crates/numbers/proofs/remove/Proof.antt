@@ -1,10 +1,10 @@
--- `store::refusals::remove` meets its contract: it takes the rows of the table one after another. Assumes nothing.
+-- `numbers::remove` meets its contract: it takes the rows of the table one after another. Assumes nothing.
 use borrow.Author.Needs.{needs}
 use Rattle.state.specs.Sizes.{addresses, valueSize, cellSize, storeSize}
 use Rattle.state.specs.Moves.{removeRows}
-use Rattle.store.proofs.Rows.{rows-first}
-use Rattle.store.proofs.refusals.remove.Statement.{statement}
-use Rattle.store.proofs.refusals.remove.Tie as tie
+use Rattle.numbers.proofs.Rows.{rows-first}
+use Rattle.numbers.proofs.remove.Statement.{statement}
+use Rattle.numbers.proofs.remove.Tie as tie
 
 returns : tie.Need-returns
 unfolding removeRows addresses valueSize cellSize storeSize
