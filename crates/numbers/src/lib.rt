@@ -58,8 +58,8 @@ pub fn remove(s: State, store: &[u8], a: usize) -> u8
 pub fn check(s: State, store: &[u8]) -> u8
     ensures { λ r. ⌜ r ≡ first (checkRows width s (now (store .entry))) ⌝ }
 {
-    let n = row(0, 7, s.closed);
-    row(n, 1, store.len() != State::STORE)
+    let closed = row(0, 7, s.closed);
+    row(closed, 1, store.len() != State::STORE)
 }
 
 // A look's, which is not told: it gives no bytes instead.
