@@ -87,7 +87,7 @@ module _ (w : ℕ) (tag : List ℕ → Entry → List ℕ) (s : State) (m : List
       go lowest e = (refl, refl, refl)
 
   step-stamps : (l : Log) → Stamps s l → (c : Call) → Stamps (step w tag s m c .seen .state) (follow l (step w tag s m c .events))
-  unfolding added loaded stored removed acceptance rejection withMarks shut takeEntry next follow noted
+  unfolding added loaded stored removed acceptance rejection withMarks shut takeEntry next noted
   step-stamps l h c = by-call w tag s m (λ (r : Step). Stamps (r .seen .state) (follow l (r .events))) c (λ e. go c) (λ n e. h)
     where
       exchange : (a : ℕ) (v : List ℕ) → let t = takeEntry tag s (entryAt w m a) in Stamps (putEntry tag t (next t a v)) (putL (takeL l (entryAt w m a)) (next t a v))
@@ -139,7 +139,7 @@ module _ (w : ℕ) (tag : List ℕ → Entry → List ℕ) (key : List ℕ) wher
       (λ run x h. by-step w tag key run x (λ s l. s .key ≡ startOf key .state .key) (step-key w tag (stateAfter w tag key run) (x .bytes) (x .call) ∙ h))
 
   pub stamps : (run : List Lent) → Stamps (stateAfter w tag key run) (logOf w tag key run)
-  unfolding after events follow noLog times
+  unfolding after events noLog times
   stamps =
       by-last (λ (run : List Lent). Stamps (stateAfter w tag key run) (logOf w tag key run)) (record { later = λ c h. refl; alike = λ c. omega arith })
       (λ run x h. by-step w tag key run x Stamps (step-stamps w tag (stateAfter w tag key run) (x .bytes) (logOf w tag key run) h (x .call)))

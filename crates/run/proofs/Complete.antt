@@ -78,7 +78,7 @@ module _ (w : ℕ) (one : 1 ≤ w) (tag : List ℕ → Entry → List ℕ) (key 
   done-more : (run : List Lent) (x : Lent) → Unaltered w tag key (run ++ (x ∷ [])) → FineIf run (s run x) (l run x) → first (rowsOf w (s run x) (x .bytes) (x .call)) ≡ 0
       → (b : Bool) → moves (x .call) ≡ b
       → let r = whenDone w tag (s run x) (x .bytes) (x .call) in FineIf (run ++ (x ∷ [])) (r .seen .state) (follow (l run x) (r .events))
-  unfolding follow Kept latest-here
+  unfolding Kept latest-here
   done-more run x u f e true k o =
       let c = not-closed w (s run x) (x .bytes) (x .call) k e in
       let d : Moved w tag key run x = (done-number w tag (s run x) (x .bytes) (x .call) e, k) in
@@ -97,7 +97,7 @@ module _ (w : ℕ) (one : 1 ≤ w) (tag : List ℕ → Entry → List ℕ) (key 
   unaltered-part p q u before later x e = u before (later ++ q) x (place-stays p before x later q e)
 
   fine : (run : List Lent) → Unaltered w tag key run → FineIf run (stateAfter w tag key run) (logOf w tag key run)
-  unfolding after events follow noLog start.none fresh times Kept
+  unfolding after events noLog start.none fresh times Kept
   fine = by-last (λ (run : List Lent). Unaltered w tag key run → FineIf run (stateAfter w tag key run) (logOf w tag key run)) begin more
     where
       begin : Unaltered w tag key [] → FineIf [] (startOf key .state) noLog

@@ -136,7 +136,7 @@ module _ (w : ℕ) (one : 1 ≤ w) (tag : List ℕ → Entry → List ℕ) (s : 
     raised n = below-bound w (s .clock + 1) (omega arith)
 
     add-fine : (a : ℕ) (v : List ℕ) → first (rowsOf w s m (add a v)) ≡ 0 → Fine w (added w tag s m a v .seen .state) (follow l (added w tag s m a v .events)) (added w tag s m a v .seen .store)
-    unfolding added follow noted putEntry putL withMarks next
+    unfolding added noted putEntry putL withMarks next
     add-fine a v e =
         let p = add-ready w s m a v e in
         let d = next s a v in
@@ -159,7 +159,7 @@ module _ (w : ℕ) (one : 1 ≤ w) (tag : List ℕ → Entry → List ℕ) (s : 
         }
 
     remove-fine : (a : ℕ) → first (rowsOf w s m (remove a)) ≡ 0 → Fine w (removed w tag s m a .seen .state) (follow l (removed w tag s m a .events)) (removed w tag s m a .seen .store)
-    unfolding removed follow noted takeL withMarks entryAt
+    unfolding removed noted takeL withMarks entryAt
     remove-fine a e =
         record { balance = take-balance l (entryAt w m a) (fine .balance) (right a (p .mark)); faultless = no-fault a (p .mark); holds = wiped }
       where
@@ -228,7 +228,7 @@ module _ (w : ℕ) (one : 1 ≤ w) (tag : List ℕ → Entry → List ℕ) (s : 
         (λ k. absurd (false≢true (sym k ∙ agreed)))
 
     pub done-fine : (c : Call) → first (rowsOf w s m c) ≡ 0 → Fine w (whenDone w tag s m c .seen .state) (follow l (whenDone w tag s m c .events)) (whenDone w tag s m c .seen .store)
-    unfolding loaded stored follow noted
+    unfolding loaded stored noted
     done-fine (add a v) e = add-fine a v e
     done-fine (load a o) e =
         let p = use-ready w s m a o e in

@@ -2,7 +2,7 @@
 -- not taken since. Of a period it is just the period's entries, by induction on the events. Assumes nothing.
 use mathlib.Core.Path.{_≡_, refl, sym, ap, _∙_}
 use mathlib.Core.Bool.{Bool, true, false, true≢false}
-use mathlib.Core.List.{List, [], _∷_, _++_, append-nil, append-assoc}
+use mathlib.Core.List.{List, [], _∷_, _++_, append-nil, append-assoc, foldl, foldl-append}
 use mathlib.Core.Option.{Option, none, some}
 use mathlib.Core.Logic.{_⊎_, inl, inr, ⊎-elim}
 use Prim.Native.Nat.{ℕ}
@@ -38,14 +38,8 @@ noted l (set a v) = l
 noted l (dropped a) = l
 noted l accepted = noLog
 
-unfoldable pub follow : Log → List Event → Log
-follow l [] = l
-follow l (e ∷ es) = follow (noted l e) es
-
-pub follow-append : (l : Log) (p q : List Event) → follow l (p ++ q) ≡ follow (follow l p) q
-unfolding follow
-follow-append l [] q = refl
-follow-append l (e ∷ p) q = follow-append (noted l e) p q
+abbrev pub follow : Log → List Event → Log
+follow = foldl noted
 
 -- ---- a period
 
@@ -56,7 +50,7 @@ rest-unbroken : (e : Event) (es : List Event) → Unbroken (e ∷ es) → Unbrok
 rest-unbroken e es u p q k = u (e ∷ p) q (ap (λ (l : List Event). e ∷ l) k)
 
 unbroken-puts : (l : Log) (es : List Event) → Unbroken es → follow l es .puts ≡ l .puts ++ putIn es
-unfolding follow noted putL takeL putIn
+unfolding noted putL takeL putIn
 unbroken-puts l [] u = sym (append-nil (l .puts))
 unbroken-puts l (took e ∷ es) u = unbroken-puts (takeL l e) es (rest-unbroken (took e) es u)
 unbroken-puts l (put e ∷ es) u = unbroken-puts (putL l e) es (rest-unbroken (put e) es u) ∙ append-assoc (l .puts) (e ∷ []) (putIn es)
@@ -66,7 +60,7 @@ unbroken-puts l (dropped a ∷ es) u = unbroken-puts l es (rest-unbroken (droppe
 unbroken-puts l (accepted ∷ es) u = absurd (u [] es refl)
 
 unbroken-takes : (l : Log) (es : List Event) → Unbroken es → follow l es .takes ≡ l .takes ++ takenIn es
-unfolding follow noted putL takeL takenIn
+unfolding noted putL takeL takenIn
 unbroken-takes l [] u = sym (append-nil (l .takes))
 unbroken-takes l (took e ∷ es) u = unbroken-takes (takeL l e) es (rest-unbroken (took e) es u) ∙ append-assoc (l .takes) (e ∷ []) (takenIn es)
 unbroken-takes l (put e ∷ es) u = unbroken-takes (putL l e) es (rest-unbroken (put e) es u)
@@ -78,11 +72,11 @@ unbroken-takes l (accepted ∷ es) u = absurd (u [] es refl)
 module _ (all period : List Event) (s : Since all period) where
   -- nothing is written down where the period begins
   begun : follow noLog (s .past) ≡ noLog
-  unfolding follow noted
-  begun = ⊎-elim (λ e. ap (follow noLog) e) (λ p. ap (follow noLog) (p .1) ∙ rw follow-append) (s .begins)
+  unfolding noted
+  begun = ⊎-elim (λ e. ap (follow noLog) e) (λ p. ap (follow noLog) (p .1) ∙ rw foldl-append) (s .begins)
 
   from : follow noLog all ≡ follow noLog period
-  from = ap (follow noLog) (s .place) ∙ follow-append noLog (s .past) period ∙ ap (λ (l : Log). follow l period) begun
+  from = ap (follow noLog) (s .place) ∙ foldl-append noted noLog (s .past) period ∙ ap (λ (l : Log). follow l period) begun
 
   pub since-puts : follow noLog all .puts ≡ putIn period
   unfolding noLog

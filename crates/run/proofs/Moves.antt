@@ -115,7 +115,7 @@ module _ (w : ℕ) (tag : List ℕ → Entry → List ℕ) (s : State) (m : List
 
   pub add-all : (Set′ : ℕ → List ℕ → Type 0) (a : ℕ) (v : List ℕ) → Set′ a v → ((b : ℕ) (u : List ℕ) → eqb b a ≡ false → Set b u → Set′ b u)
       → first (addRows w s m a v) ≡ 0 → All tag (added w tag s m a v .seen .state) (follow l (added w tag s m a v .events)) Set′ C R
-  unfolding added follow noted next putL
+  unfolding added noted next putL
   add-all Set′ a v h k e =
       let p = add-ready w s m a v e .0 in
       let d = next s a v in
@@ -171,7 +171,7 @@ module _ (w : ℕ) (tag : List ℕ → Entry → List ℕ) (s : State) (m : List
   -- ---- remove
 
   pub remove-all : (a : ℕ) → first (removeRows w s m a) ≡ 0 → All tag (removed w tag s m a .seen .state) (follow l (removed w tag s m a .events)) Set C R
-  unfolding removed follow noted takeL entryAt withMarks takeEntry
+  unfolding removed noted takeL entryAt withMarks takeEntry
   remove-all a e =
       let p = remove-ready w s m a e in
       let d = entryAt w m a in

@@ -164,7 +164,7 @@ module _ (w : ℕ) (tag : List ℕ → Entry → List ℕ) (key : List ℕ) wher
 
       store-more : (a : ℕ) (v : List ℕ) → first (rowsOf w s m (store a v)) ≡ 0
           → AllAt (run ++ (lent (store a v) m ∷ [])) (stored w tag s m a v .seen .state) (follow l (stored w tag s m a v .events))
-      unfolding stored follow noted
+      unfolding stored noted
       store-more a v e o =
           all-map (λ b u k. k) (collision-stays run (lent (store a v) m)) (loads-not (store a v) refl)
           (exchange-all w tag s m l _ _ _ (x (store a v) refl e) a v (LastSet w tag key (run ++ (lent (store a v) m ∷ []))) (EachLoad w tag key run)
@@ -172,7 +172,7 @@ module _ (w : ℕ) (tag : List ℕ → Entry → List ℕ) (key : List ℕ) wher
 
       load-more : (a : ℕ) (b : List ℕ) → first (rowsOf w s m (load a b)) ≡ 0
           → AllAt (run ++ (lent (load a b) m ∷ [])) (loaded w tag s m a .seen .state) (follow l (loaded w tag s m a .events))
-      unfolding loaded follow noted
+      unfolding loaded noted
       load-more a b e o =
           all-map (λ b u k. k) (collision-stays run (lent (load a b) m)) (λ r. r)
           (exchange-all w tag s m l _ _ _ (x (load a b) refl e) a (valueAt w m a) (LastSet w tag key (run ++ (lent (load a b) m ∷ []))) (EachLoad w tag key (run ++ (lent (load a b) m ∷ [])))
@@ -199,7 +199,6 @@ module _ (w : ℕ) (tag : List ℕ → Entry → List ℕ) (key : List ℕ) wher
           either k (inr c) = collision-stays run (lent check m) c
 
       done-all : (c : Call) → first (rowsOf w s m c) ≡ 0 → AllAt (run ++ (lent c m ∷ [])) (whenDone w tag s m c .seen .state) (follow l (whenDone w tag s m c .events))
-      unfolding follow
       done-all (add a v) e = add-more a v e
       done-all (load a b) e = load-more a b e
       done-all (store a v) e = store-more a v e
@@ -226,7 +225,7 @@ module _ (w : ℕ) (tag : List ℕ → Entry → List ℕ) (key : List ℕ) wher
       (λ e o. absurd (true≢false o))
 
   pub all : (run : List Lent) → AllAt run (stateAfter w tag key run) (logOf w tag key run)
-  unfolding after events follow
+  unfolding after events
   all = by-last (λ (run : List Lent). AllAt run (stateAfter w tag key run) (logOf w tag key run)) first-all more
     where
       more : (run : List Lent) (x : Lent) → AllAt run (stateAfter w tag key run) (logOf w tag key run) → AllAt (run ++ (x ∷ [])) (stateAfter w tag key (run ++ (x ∷ []))) (logOf w tag key (run ++ (x ∷ [])))

@@ -2,7 +2,7 @@
 -- Assumes nothing.
 use mathlib.Core.Path.{_≡_, refl, sym, ap, _∙_, subst}
 use mathlib.Core.Bool.{Bool, true, false, not, false≢true}
-use mathlib.Core.List.{List, [], _∷_, _++_}
+use mathlib.Core.List.{List, [], _∷_, _++_, foldl, foldl-append}
 use mathlib.Core.Option.{Option, none, some}
 use mathlib.Core.Logic.{_⊎_, inl, inr, _≢_}
 use Prim.Native.Nat.{ℕ, zero, suc, _+_, _≤_, _<_}
@@ -22,7 +22,7 @@ use Rattle.state.proofs.Marks.{both}
 use Rattle.state.proofs.Multiset.{sameEntry-true, sameHash-true, times-last, hash-none}
 use Rattle.run.specs.Demand3.{Differ}
 use Rattle.run.proofs.Lists.{Each, each-none, each-more, each-both}
-use Rattle.run.proofs.Logs.{Log, upd, putL, takeL, noLog, noted, follow, follow-append}
+use Rattle.run.proofs.Logs.{Log, upd, putL, takeL, noLog, noted, follow}
 use Rattle.run.proofs.Balance.{upd-same, upd-other, heldTimes, Balance, put-balance}
 use Rattle.run.proofs.Micro.{Stamps, Hashed, Status, faulty, bad, good, status-map, take-hashed, put-hashed, take-status}
 
@@ -46,13 +46,15 @@ unfoldable pub walk : (ℕ → Event) → List ℕ → Log → ℕ → Log
 walk x ws l zero = l
 walk x ws l (suc n) = choose (used ws n) (noted (walk x ws l n) (x n)) (walk x ws l n)
 
-follow-walk : (x : ℕ → Event) (ws : List ℕ) (l : Log) (n : ℕ) → follow l (inUse x ws n) ≡ walk x ws l n
-unfolding walk inUse follow
-follow-walk x ws l zero = refl
-follow-walk x ws l (suc n) = follow-append l (inUse x ws n) (choose (used ws n) (x n ∷ []) []) ∙ go (used ws n) (follow-walk x ws l n)
+-- what is made of events one after the other, at the addresses in use below n
+pub fold-used : {S : Type 0} (f : S → Event → S) (x : ℕ → Event) (ws : List ℕ) (g : ℕ → S) → ((n : ℕ) → g (suc n) ≡ choose (used ws n) (f (g n) (x n)) (g n)) → (n : ℕ)
+    → foldl f (g 0) (inUse x ws n) ≡ g n
+unfolding inUse
+fold-used f x ws g h zero = refl
+fold-used {S} f x ws g h (suc n) = foldl-append f (g 0) (inUse x ws n) (choose (used ws n) (x n ∷ []) []) ∙ go (used ws n) (fold-used f x ws g h n) ∙ sym (h n)
   where
-    go : (b : Bool) → follow l (inUse x ws n) ≡ walk x ws l n → follow (follow l (inUse x ws n)) (choose b (x n ∷ []) []) ≡ choose b (noted (walk x ws l n) (x n)) (walk x ws l n)
-    go true e = ap (λ (k : Log). noted k (x n)) e
+    go : (b : Bool) → foldl f (g 0) (inUse x ws n) ≡ g n → foldl f (foldl f (g 0) (inUse x ws n)) (choose b (x n ∷ []) []) ≡ choose b (f (g n) (x n)) (g n)
+    go true e = ap (λ (t : S). f t (x n)) e
     go false e = e
 
 pub each-used : (P : Event → Type 0) (x : ℕ → Event) (ws : List ℕ) (n : ℕ) → ((a : ℕ) → a < n → P (x a)) → Each P (inUse x ws n)
@@ -78,12 +80,12 @@ module _ (w : ℕ) (s : State) (m : List ℕ) where
 
   -- what a check's events leave written down
   pub taken-log : (l : Log) → follow l (takes w s m) ≡ takenL l addresses
-  unfolding takes
-  taken-log l = follow-walk (λ a. took (entryAt w m a)) (s .marks) l addresses
+  unfolding takes walk
+  taken-log l = fold-used noted (λ a. took (entryAt w m a)) (s .marks) (takenL l) (λ n. refl) addresses
 
   pub opened-log : (l : Log) → follow l (takes w s m ++ (accepted ∷ puts w s m)) ≡ openL addresses
-  unfolding puts follow noted
-  opened-log l = follow-append l (takes w s m) (accepted ∷ puts w s m) ∙ follow-walk (λ a. put (opening w m a)) (s .marks) noLog addresses
+  unfolding puts noted walk
+  opened-log l = foldl-append noted l (takes w s m) (accepted ∷ puts w s m) ∙ fold-used noted (λ a. put (opening w m a)) (s .marks) openL (λ n. refl) addresses
 
   -- ---- the takes
 
