@@ -69,7 +69,7 @@ module _ (w : ℕ) (tag : List ℕ → Entry → List ℕ) (s : State) (m : List
       go lowest = refl
 
   -- a closed state gives itself back, and no verdict
-  closed-step : s .closed ≡ true → (c : Call) → (step w tag s m c .seen .state ≡ s) × (step w tag s m c .seen .verdict ≡ Nothing) × (step w tag s m c .events ≡ [])
+  pub closed-step : s .closed ≡ true → (c : Call) → (step w tag s m c .seen .state ≡ s) × (step w tag s m c .seen .verdict ≡ Nothing) × (step w tag s m c .events ≡ [])
   closed-step k c =
       by-call w tag s m (λ (r : Step). (r .seen .state ≡ s) × (r .seen .verdict ≡ Nothing) × (r .events ≡ [])) c (go c) (λ n e. (refl, refl, refl))
     where

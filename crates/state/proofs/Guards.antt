@@ -54,7 +54,7 @@ module _ (tag : List ℕ → Entry → List ℕ) (s : State) where
   marks-fault e (inr h) = rw (lt-ltb (s .clock) (e .stamp) h, or-true)
 
 -- the hashes are equal and no fault is marked
-agrees-tells : (t : State) → agrees t ≡ true → (t .put ≡ t .take) × (t .fault ≡ false)
+pub agrees-tells : (t : State) → agrees t ≡ true → (t .put ≡ t .take) × (t .fault ≡ false)
 unfolding agrees
 agrees-tells t h =
     let p = both (sameHash (t .put) (t .take)) (not (t .fault)) h in
