@@ -18,14 +18,13 @@ use Rattle.state.specs.Check.{checkRows, takes, takeBelow}
 use Rattle.state.specs.declared.State.{State}
 use Rattle.state.proofs.Ready.{check-ready}
 use Rattle.state.proofs.Guards.{accepts-tells, equal-accepts}
-use Rattle.state.proofs.Multiset.{hash-none}
-use Rattle.run.specs.Calls.{check, Lent, lent, step}
-use Rattle.run.specs.Demand3.{putIn, takenIn, Since, stateAfter, eventsOf, Done, Accepts}
+use Rattle.run.specs.Calls.{check, step}
+use Rattle.run.specs.Demand3.{Since, stateAfter, eventsOf}
 use Rattle.run.specs.Exact.{clockAfter, NoneAhead, OnePeriod, Tells, StateExact, CheckExact}
 use Rattle.run.proofs.Lists.{by-last, no-place, last-place, place-stays}
 use Rattle.run.proofs.Logs.{noLog, Unbroken, follow, since-puts, since-takes, since-now, since-one}
 use Rattle.run.proofs.Steps.{number-done}
-use Rattle.run.proofs.Told.{neither, Like, moved, told, like-told, Follows, follows, taken-told, run-told}
+use Rattle.run.proofs.Told.{neither, Like, moved, like-told, taken-told, made, made-follows, run-told}
 
 abbrev isTake : Event → Bool
 isTake (took e) = true
@@ -34,10 +33,6 @@ isTake (answered a v) = false
 isTake (set a v) = false
 isTake (dropped a) = false
 isTake accepted = false
-
--- what all that was done makes of a start
-abbrev pub made : (List ℕ → Entry → List ℕ) → List ℕ → List Event → State
-made tag key = told tag (fresh key false)
 
 -- ---- stamps that are not ahead
 
@@ -68,11 +63,6 @@ module _ (tag : List ℕ → Entry → List ℕ) where
   fault-moved s c t accepted n = absurd (n refl)
 
   module _ (key : List ℕ) where
-    made-follows : (all : List Event) → Follows tag key (made tag key all) (clockAfter all) (follow noLog all)
-    unfolding fresh noLog
-    made-follows all =
-        follows tag key (fresh key false) 0 noLog all (record { keyed = refl; clock = refl; hashed = record { put = sym (hash-none (tag key)); take = sym (hash-none (tag key)) } })
-
     -- by the last event: where no fault was marked before, none is exactly where no take was ahead
     fault-made : (past : List Event) → made tag key past .fault ≡ false → (es : List Event) → Unbroken es → (made tag key (past ++ es) .fault ≡ false) ↔ NoneAhead past es
     fault-made past h =
@@ -80,7 +70,7 @@ module _ (tag : List ℕ → Entry → List ℕ) where
         (λ u. ((λ k p q e g. absurd (no-place p (took e) q g)), λ n. ap (λ (l : List Event). made tag key l .fault) (append-nil past) ∙ h))
         (λ es v ih u.
         let old = ih (λ p q k. u p (q ++ (v ∷ [])) (place-stays es p accepted q (v ∷ []) k)) in
-        let one = fault-moved (made tag key (past ++ es)) (clockAfter (past ++ es)) (made-follows (past ++ es) .clock) v (λ q. u es [] (ap (λ (x : Event). es ++ (x ∷ [])) q)) in
+        let one = fault-moved (made tag key (past ++ es)) (clockAfter (past ++ es)) (made-follows tag key (past ++ es) .clock) v (λ q. u es [] (ap (λ (x : Event). es ++ (x ∷ [])) q)) in
         let both = none-last past es v in
         let last : made tag key (past ++ (es ++ (v ∷ []))) .fault ≡ moved tag (made tag key (past ++ es)) v .fault =
         ap (λ (s : State). s .fault) (ap (made tag key) (sym (append-assoc past es (v ∷ []))) ∙ foldl-append (moved tag) (fresh key false) (past ++ es) (v ∷ [])) in
@@ -91,7 +81,7 @@ module _ (tag : List ℕ → Entry → List ℕ) where
     made-tells : (all period : List Event) (since : Since all period) → Tells (tag key) (made tag key all) all period since
     unfolding fresh moved
     made-tells all period since =
-        let h = made-follows all in
+        let h = made-follows tag key all in
         let begun : made tag key (since .past) .fault ≡ false =
         ⊎-elim (λ e. ap (λ (l : List Event). made tag key l .fault) e) (λ p. ap (λ (l : List Event). made tag key l .fault) (p .1) ∙ ap (λ (s : State). s .fault) (foldl-append (moved tag) (fresh key false) (p .0) (accepted ∷ []))) (since .begins) in
         record {

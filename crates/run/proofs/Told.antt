@@ -10,21 +10,21 @@ use Rattle.state.specs.Marks.{used}
 use Rattle.state.specs.Cells.{Entry, entryAt}
 use Rattle.state.specs.Multiset.{emptyHash}
 use Rattle.state.specs.Start.{fresh, none, startOf}
-use Rattle.state.specs.Step.{Event, took, put, answered, set, dropped, accepted, Step, withMarks, shut, next, takeEntry, putEntry}
+use Rattle.state.specs.Step.{Event, took, put, answered, set, dropped, accepted, Step, withMarks, shut, takeEntry, putEntry}
 use Rattle.state.specs.Moves.{added, loaded, stored, removed}
 use Rattle.state.specs.Check.{opened, opening, agrees, takes, puts, takeBelow, openBelow, acceptance, rejection}
 use Rattle.state.specs.declared.State.{State}
-use Rattle.state.proofs.Guards.{agrees-tells}
+use Rattle.state.proofs.Guards.{agrees-tells, fold-used}
 use Rattle.state.proofs.Multiset.{hash-none}
 use Rattle.run.specs.Calls.{Call, add, load, store, remove, check, look, count, lowest, Lent, step, after, events}
 use Rattle.run.specs.Demand3.{stateAfter, result, eventsOf}
-use Rattle.run.specs.Exact.{tick}
+use Rattle.run.specs.Exact.{tick, clockAfter}
 use Rattle.run.proofs.Lists.{by-last}
 use Rattle.run.proofs.Logs.{Log, noLog, noted, follow}
 use Rattle.run.proofs.Micro.{Hashed, take-hashed, put-hashed}
-use Rattle.run.proofs.Walk.{by-choose, fold-used}
+use Rattle.run.proofs.Walk.{by-choose}
 use Rattle.run.proofs.Steps.{whenDone, by-call}
-use Rattle.run.proofs.Runs.{by-start, state-last, events-last}
+use Rattle.run.proofs.Runs.{by-start, logOf, state-last, events-last}
 use Rattle.run.proofs.Always.{closed-step}
 
 pub neither : (a b : Bool) → (a || b) ≡ false → (a ≡ false) × (b ≡ false)
@@ -91,11 +91,11 @@ module _ (tag : List ℕ → Entry → List ℕ) where
   module _ (w : ℕ) (s : State) (m : List ℕ) where
     pub taken-told : takeBelow w tag s m addresses ≡ told s (takes w s m)
     unfolding takes takeBelow moved
-    taken-told = sym (fold-used moved (λ a. took (entryAt w m a)) (s .marks) (takeBelow w tag s m) (λ n. refl) addresses)
+    taken-told = fold-used moved (λ a. took (entryAt w m a)) (s .marks) (takeBelow w tag s m) (λ n. refl) addresses
 
     opened-told : openBelow w tag s m addresses ≡ told (opened s) (puts w s m)
     unfolding puts openBelow moved
-    opened-told = sym (fold-used moved (λ a. put (opening w m a)) (s .marks) (openBelow w tag s m) (λ n. refl) addresses)
+    opened-told = fold-used moved (λ a. put (opening w m a)) (s .marks) (openBelow w tag s m) (λ n. refl) addresses
 
     -- where no fault is marked after the takes, none was before
     taken-calm : (n : ℕ) → takeBelow w tag s m n .fault ≡ false → s .fault ≡ false
@@ -142,17 +142,26 @@ module _ (tag : List ℕ → Entry → List ℕ) where
 
 -- ---- a run
 
+-- what all that was done makes of a start
+abbrev pub made : (List ℕ → Entry → List ℕ) → List ℕ → List Event → State
+made tag key = told tag (fresh key false)
+
+pub made-follows : (tag : List ℕ → Entry → List ℕ) (key : List ℕ) (all : List Event) → Follows tag key (made tag key all) (clockAfter all) (follow noLog all)
+unfolding fresh noLog
+made-follows tag key all =
+    follows tag key (fresh key false) 0 noLog all (record { keyed = refl; clock = refl; hashed = record { put = sym (hash-none (tag key)); take = sym (hash-none (tag key)) } })
+
 module _ (w : ℕ) (tag : List ℕ → Entry → List ℕ) (key : List ℕ) where
   -- as long as it is not closed, the state is told by the run's events
-  pub run-told : (run : List Lent) → stateAfter w tag key run .closed ≡ false → Like (stateAfter w tag key run) (told tag (fresh key false) (eventsOf w tag key run))
+  pub run-told : (run : List Lent) → stateAfter w tag key run .closed ≡ false → Like (stateAfter w tag key run) (made tag key (eventsOf w tag key run))
   unfolding after events none fresh withMarks
-  run-told = by-last (λ (run : List Lent). stateAfter w tag key run .closed ≡ false → Like (stateAfter w tag key run) (told tag (fresh key false) (eventsOf w tag key run))) begin more
+  run-told = by-last (λ (run : List Lent). stateAfter w tag key run .closed ≡ false → Like (stateAfter w tag key run) (made tag key (eventsOf w tag key run))) begin more
     where
       begin : startOf key .state .closed ≡ false → Like (startOf key .state) (fresh key false)
       begin = by-start key (λ (s : State). s .closed ≡ false → Like s (fresh key false)) (λ e o. (_, refl)) (λ e o. absurd (true≢false o))
 
-      more : (run : List Lent) (x : Lent) → (stateAfter w tag key run .closed ≡ false → Like (stateAfter w tag key run) (told tag (fresh key false) (eventsOf w tag key run)))
-          → stateAfter w tag key (run ++ (x ∷ [])) .closed ≡ false → Like (stateAfter w tag key (run ++ (x ∷ []))) (told tag (fresh key false) (eventsOf w tag key (run ++ (x ∷ []))))
+      more : (run : List Lent) (x : Lent) → (stateAfter w tag key run .closed ≡ false → Like (stateAfter w tag key run) (made tag key (eventsOf w tag key run)))
+          → stateAfter w tag key (run ++ (x ∷ [])) .closed ≡ false → Like (stateAfter w tag key (run ++ (x ∷ []))) (made tag key (eventsOf w tag key (run ++ (x ∷ []))))
       more run x ih o = go (s .closed) refl
         where
           s : State
@@ -164,12 +173,18 @@ module _ (w : ℕ) (tag : List ℕ → Entry → List ℕ) (key : List ℕ) wher
           now : r .seen .state .closed ≡ false
           now = sym (ap (λ (t : State). t .closed) (state-last w tag key run x)) ∙ o
 
-          all : told tag (told tag (fresh key false) (eventsOf w tag key run)) (r .events) ≡ told tag (fresh key false) (eventsOf w tag key (run ++ (x ∷ [])))
-          all = sym (foldl-append (moved tag) (fresh key false) (eventsOf w tag key run) (r .events)) ∙ ap (told tag (fresh key false)) (sym (events-last w tag key run x))
+          all : told tag (made tag key (eventsOf w tag key run)) (r .events) ≡ made tag key (eventsOf w tag key (run ++ (x ∷ [])))
+          all = sym (foldl-append (moved tag) (fresh key false) (eventsOf w tag key run) (r .events)) ∙ ap (made tag key) (sym (events-last w tag key run x))
 
-          go : (b : Bool) → s .closed ≡ b → Like (stateAfter w tag key (run ++ (x ∷ []))) (told tag (fresh key false) (eventsOf w tag key (run ++ (x ∷ []))))
+          go : (b : Bool) → s .closed ≡ b → Like (stateAfter w tag key (run ++ (x ∷ []))) (made tag key (eventsOf w tag key (run ++ (x ∷ []))))
           go true c = absurd (false≢true (sym now ∙ ap (λ (t : State). t .closed) (closed-step w tag s (x .bytes) c (x .call) .0) ∙ c))
           go false c =
               let p = step-told tag w s (x .bytes) (x .call) now in
-              let q = like-told tag s (told tag (fresh key false) (eventsOf w tag key run)) (r .events) (ih c) in
+              let q = like-told tag s (made tag key (eventsOf w tag key run)) (r .events) (ih c) in
               (p .0, state-last w tag key run x ∙ p .1 ∙ ap (λ (t : State). withMarks t (p .0)) (q .1 ∙ ap (λ (t : State). withMarks t (q .0)) all))
+
+  pub run-hashed : (run : List Lent) → stateAfter w tag key run .closed ≡ false → Hashed tag (stateAfter w tag key run) (logOf w tag key run)
+  unfolding withMarks
+  run-hashed run o =
+      let h = made-follows tag key (eventsOf w tag key run) .hashed in
+      subst (λ (s : State). Hashed tag s (logOf w tag key run)) (sym (run-told run o .1)) (record { put = h .put; take = h .take })
