@@ -24,7 +24,7 @@ use Rattle.run.specs.Exact.{clockAfter, NoneAhead, OnePeriod, Tells, Sta
 use Rattle.run.proofs.Lists.{by-last, no-place, last-place, place-stays}
 use Rattle.run.proofs.Logs.{noLog, Unbroken, follow, since-puts, since-takes, since-now, since-one}
 use Rattle.run.proofs.Steps.{number-done}
-use Rattle.run.proofs.Told.{neither, Like, moved, like-told, taken-told, made, made-follows, run-told}
+use Rattle.run.proofs.Told.{neither, Like, moved, taken-told, made, made-follows, like-made, run-told}
 
 abbrev isTake : Event → Bool
 isTake (took e) = true
@@ -48,6 +48,9 @@ none-last past es v = (
     go n h p q e (inl (r, f, g)) = n p r e f
     go n h p q e (inr (f, g)) = subst (λ (p : List Event). e .stamp ≤ clockAfter (past ++ p)) (sym f) (h e (sym g))
 
+no-take : (s : State) (c : ℕ) (v : Event) → isTake v ≡ false → (s .fault ≡ false) ↔ ((s .fault ≡ false) × ((e : Entry) → v ≡ took e → e .stamp ≤ c))
+no-take s c v n = ((λ h. (h, λ e q. absurd (false≢true (sym n ∙ ap isTake q)))), λ h. h .0)
+
 module _ (tag : List ℕ → Entry → List ℕ) where
   -- one event that is no accepted check leaves no fault where none was and it is no take that is ahead of the clock c
   fault-moved : (s : State) (c : ℕ) → s .clock ≡ c → (v : Event) → (v ≡ accepted → ⊥) → (moved tag s v .fault ≡ false) ↔ ((s .fault ≡ false) × ((e : Entry) → v ≡ took e → e .stamp ≤ c))
@@ -56,10 +59,10 @@ module _ (tag : List ℕ → Entry → List ℕ) where
     (λ h. let k = neither (s .fault) (ltb (s .clock) (d .stamp)) h in (k .0, λ e q. let f : d .stamp ≡ e .stamp = cc in omega (arith, ltb-false (s .clock) (d .stamp) (k .1)))),
     λ h. rw (h .0, le-ltb (s .clock) (d .stamp) (omega (arith, h .1 d refl))),
   )
-  fault-moved s c t (put d) n = ((λ h. (h, λ e q. absurd (false≢true (ap isTake q)))), λ h. h .0)
-  fault-moved s c t (answered a v) n = ((λ h. (h, λ e q. absurd (false≢true (ap isTake q)))), λ h. h .0)
-  fault-moved s c t (set a v) n = ((λ h. (h, λ e q. absurd (false≢true (ap isTake q)))), λ h. h .0)
-  fault-moved s c t (dropped a) n = ((λ h. (h, λ e q. absurd (false≢true (ap isTake q)))), λ h. h .0)
+  fault-moved s c t (put d) n = no-take s c (put d) refl
+  fault-moved s c t (answered a v) n = no-take s c (answered a v) refl
+  fault-moved s c t (set a v) n = no-take s c (set a v) refl
+  fault-moved s c t (dropped a) n = no-take s c (dropped a) refl
   fault-moved s c t accepted n = absurd (n refl)
 
   module _ (key : List ℕ) where
@@ -78,13 +81,14 @@ module _ (tag : List ℕ → Entry → List ℕ) where
 
     -- ---- what a state tells
 
-    made-tells : (all period : List Event) (since : Since all period) → Tells (tag key) (made tag key all) all period since
+    made-tells : (all period : List Event) (since : Since all period) → Tells tag key (made tag key all) all period since
     unfolding fresh moved
     made-tells all period since =
         let h = made-follows tag key all in
         let begun : made tag key (since .past) .fault ≡ false =
         ⊎-elim (λ e. ap (λ (l : List Event). made tag key l .fault) e) (λ p. ap (λ (l : List Event). made tag key l .fault) (p .1) ∙ ap (λ (s : State). s .fault) (foldl-append (moved tag) (fresh key false) (p .0) (accepted ∷ []))) (since .begins) in
         record {
+          key = h .keyed;
           put = h .hashed .put ∙ ap (λ (k : List ℕ). hash (tag k) (follow noLog all .puts)) (h .keyed) ∙ ap (hash (tag key)) (since-puts all period since);
           take = h .hashed .take ∙ ap (λ (k : List ℕ). hash (tag k) (follow noLog all .takes)) (h .keyed) ∙ ap (hash (tag key)) (since-takes all period since);
           clock = h .clock;
@@ -92,11 +96,11 @@ module _ (tag : List ℕ → Entry → List ℕ) where
         }
 
     -- and so does one that is it but for the marks
-    like-tells : (x : State) (all period : List Event) (since : Since all period) → Like x (made tag key all) → Tells (tag key) x all period since
+    like-tells : (x : State) (all period : List Event) (since : Since all period) → Like x (made tag key all) → Tells tag key x all period since
     unfolding withMarks
     like-tells x all period since (ws, e) =
         let h = made-tells all period since in
-        subst (λ (y : State). Tells (tag key) y all period since) (sym e) (record { put = h .put; take = h .take; clock = h .clock; fault = h .fault })
+        subst (λ (y : State). Tells tag key y all period since) (sym e) (record { key = h .key; put = h .put; take = h .take; clock = h .clock; fault = h .fault })
 
 -- ---- runs
 
@@ -119,10 +123,9 @@ check-exact w tag key run m d period since = (
     e : first (checkRows w s m) ≡ 0
     e = number-done w tag s m check d
 
-    taken : Like (takeBelow w tag s m addresses) (made tag key (eventsOf w tag key run ++ takes w s m))
-    taken =
-        let q = like-told tag s (made tag key (eventsOf w tag key run)) (takes w s m) (run-told w tag key run (check-ready w s m e .0)) in
-        (q .0, taken-told tag w s m ∙ q .1 ∙ ap (λ (x : State). withMarks x (q .0)) (sym (foldl-append (moved tag) (fresh key false) (eventsOf w tag key run) (takes w s m))))
+    all : List Event
+    all = eventsOf w tag key run ++ takes w s m
 
-    h : Tells (tag key) (takeBelow w tag s m addresses) (eventsOf w tag key run ++ takes w s m) period since
-    h = like-tells tag key (takeBelow w tag s m addresses) (eventsOf w tag key run ++ takes w s m) period since taken
+    -- the state after the check's takes
+    h : Tells tag key (takeBelow w tag s m addresses) all period since
+    h = like-tells tag key (takeBelow w tag s m addresses) all period since (subst (λ (x : State). Like x (made tag key all)) (sym (taken-told tag w s m)) (like-made tag key s (eventsOf w tag key run) (takes w s m) (run-told w tag key run (check-ready w s m e .0))))

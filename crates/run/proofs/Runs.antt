@@ -85,12 +85,15 @@ module _ (w : ℕ) (tag : List ℕ → Entry → List ℕ) where
       events-last =
           events-append (startOf key .state) run (x ∷ []) ∙ ap (λ (es : List Event). eventsOf w tag key run ++ es) (append-nil (result w tag key run x .events))
 
-      pub log-last : logOf (run ++ (x ∷ [])) ≡ follow (logOf run) (result w tag key run x .events)
-      log-last = ap (follow noLog) events-last ∙ foldl-append noted noLog (eventsOf w tag key run) (result w tag key run x .events)
+      -- what holds of what the call gives, and of all that was done with it, holds after it
+      pub by-events : (P : State → List Event → Type 0) → P (result w tag key run x .seen .state) (eventsOf w tag key run ++ result w tag key run x .events)
+          → P (stateAfter w tag key (run ++ (x ∷ []))) (eventsOf w tag key (run ++ (x ∷ [])))
+      by-events P h = subst (λ (s : State). P s (eventsOf w tag key (run ++ (x ∷ [])))) (sym state-last) (subst (P (result w tag key run x .seen .state)) (sym events-last) h)
 
-      -- what holds of what the call gives holds after it
+      -- and so of what is written down
       pub by-step : (P : State → Log → Type 0) → P (result w tag key run x .seen .state) (follow (logOf run) (result w tag key run x .events)) → P (stateAfter w tag key (run ++ (x ∷ []))) (logOf (run ++ (x ∷ [])))
-      by-step P h = subst (λ (s : State). P s (logOf (run ++ (x ∷ [])))) (sym state-last) (subst (P (result w tag key run x .seen .state)) (sym log-last) h)
+      by-step P h =
+          by-events (λ s es. P s (follow noLog es)) (subst (P (result w tag key run x .seen .state)) (sym (foldl-append noted noLog (eventsOf w tag key run) (result w tag key run x .events))) h)
 
 -- ---- the latest call
 

@@ -9,7 +9,7 @@ use Rattle.state.specs.Sizes.{addresses}
 use Rattle.state.specs.Marks.{used}
 use Rattle.state.specs.Cells.{Entry, entryAt}
 use Rattle.state.specs.Multiset.{emptyHash}
-use Rattle.state.specs.Start.{fresh, none, startOf}
+use Rattle.state.specs.Start.{fresh, none}
 use Rattle.state.specs.Step.{Event, took, put, answered, set, dropped, accepted, Step, withMarks, shut, takeEntry, putEntry}
 use Rattle.state.specs.Moves.{added, loaded, stored, removed}
 use Rattle.state.specs.Check.{opened, opening, agrees, takes, puts, takeBelow, openBelow, acceptance, rejection}
@@ -24,7 +24,7 @@ use Rattle.run.proofs.Logs.{Log, noLog, noted, follow}
 use Rattle.run.proofs.Micro.{Hashed, take-hashed, put-hashed}
 use Rattle.run.proofs.Walk.{by-choose}
 use Rattle.run.proofs.Steps.{whenDone, by-call}
-use Rattle.run.proofs.Runs.{by-start, logOf, state-last, events-last}
+use Rattle.run.proofs.Runs.{by-start, logOf, by-events}
 use Rattle.run.proofs.Always.{closed-step}
 
 pub neither : (a b : Bool) → (a || b) ≡ false → (a ≡ false) × (b ≡ false)
@@ -34,6 +34,10 @@ neither false b h = (refl, h)
 -- the state x is t, with marks of its own
 abbrev pub Like : State → State → Type 0
 Like x t = (ws : List ℕ) × (x ≡ withMarks t ws)
+
+like-trans : (x y z : State) → Like x y → Like y z → Like x z
+unfolding withMarks
+like-trans x y z (ws, e) (vs, f) = (ws, e ∙ ap (λ (t : State). withMarks t ws) f)
 
 module _ (tag : List ℕ → Entry → List ℕ) where
   -- ---- one event, and some
@@ -62,7 +66,7 @@ module _ (tag : List ℕ → Entry → List ℕ) where
       go (dropped a) = refl
       go accepted = refl
 
-  pub like-told : (x t : State) (es : List Event) → Like x t → Like (told x es) (told t es)
+  like-told : (x t : State) (es : List Event) → Like x t → Like (told x es) (told t es)
   like-told x t [] h = h
   like-told x t (v ∷ es) h = like-told (moved x v) (moved t v) es (like-moved x t v h)
 
@@ -151,37 +155,30 @@ unfolding fresh noLog
 made-follows tag key all =
     follows tag key (fresh key false) 0 noLog all (record { keyed = refl; clock = refl; hashed = record { put = sym (hash-none (tag key)); take = sym (hash-none (tag key)) } })
 
+-- what is made of a state that they tell is told with what more was done
+pub like-made : (tag : List ℕ → Entry → List ℕ) (key : List ℕ) (s : State) (all es : List Event) → Like s (made tag key all) → Like (told tag s es) (made tag key (all ++ es))
+like-made tag key s all es h = subst (Like (told tag s es)) (sym (foldl-append (moved tag) (fresh key false) all es)) (like-told tag s (made tag key all) es h)
+
 module _ (w : ℕ) (tag : List ℕ → Entry → List ℕ) (key : List ℕ) where
+  abbrev ToldBy : State → List Event → Type 0
+  ToldBy s all = s .closed ≡ false → Like s (made tag key all)
+
   -- as long as it is not closed, the state is told by the run's events
-  pub run-told : (run : List Lent) → stateAfter w tag key run .closed ≡ false → Like (stateAfter w tag key run) (made tag key (eventsOf w tag key run))
+  pub run-told : (run : List Lent) → ToldBy (stateAfter w tag key run) (eventsOf w tag key run)
   unfolding after events none fresh withMarks
-  run-told = by-last (λ (run : List Lent). stateAfter w tag key run .closed ≡ false → Like (stateAfter w tag key run) (made tag key (eventsOf w tag key run))) begin more
+  run-told =
+      by-last (λ (run : List Lent). ToldBy (stateAfter w tag key run) (eventsOf w tag key run))
+      (by-start key (λ (s : State). ToldBy s []) (λ e o. (_, refl)) (λ e o. absurd (true≢false o)))
+      (λ run x ih. by-events w tag key run x ToldBy (λ o. more run x ih o (stateAfter w tag key run .closed) refl))
     where
-      begin : startOf key .state .closed ≡ false → Like (startOf key .state) (fresh key false)
-      begin = by-start key (λ (s : State). s .closed ≡ false → Like s (fresh key false)) (λ e o. (_, refl)) (λ e o. absurd (true≢false o))
-
-      more : (run : List Lent) (x : Lent) → (stateAfter w tag key run .closed ≡ false → Like (stateAfter w tag key run) (made tag key (eventsOf w tag key run)))
-          → stateAfter w tag key (run ++ (x ∷ [])) .closed ≡ false → Like (stateAfter w tag key (run ++ (x ∷ []))) (made tag key (eventsOf w tag key (run ++ (x ∷ []))))
-      more run x ih o = go (s .closed) refl
-        where
-          s : State
-          s = stateAfter w tag key run
-
-          r : Step
-          r = result w tag key run x
-
-          now : r .seen .state .closed ≡ false
-          now = sym (ap (λ (t : State). t .closed) (state-last w tag key run x)) ∙ o
-
-          all : told tag (made tag key (eventsOf w tag key run)) (r .events) ≡ made tag key (eventsOf w tag key (run ++ (x ∷ [])))
-          all = sym (foldl-append (moved tag) (fresh key false) (eventsOf w tag key run) (r .events)) ∙ ap (made tag key) (sym (events-last w tag key run x))
-
-          go : (b : Bool) → s .closed ≡ b → Like (stateAfter w tag key (run ++ (x ∷ []))) (made tag key (eventsOf w tag key (run ++ (x ∷ []))))
-          go true c = absurd (false≢true (sym now ∙ ap (λ (t : State). t .closed) (closed-step w tag s (x .bytes) c (x .call) .0) ∙ c))
-          go false c =
-              let p = step-told tag w s (x .bytes) (x .call) now in
-              let q = like-told tag s (made tag key (eventsOf w tag key run)) (r .events) (ih c) in
-              (p .0, state-last w tag key run x ∙ p .1 ∙ ap (λ (t : State). withMarks t (p .0)) (q .1 ∙ ap (λ (t : State). withMarks t (q .0)) all))
+      more : (run : List Lent) (x : Lent) → ToldBy (stateAfter w tag key run) (eventsOf w tag key run) → let r = result w tag key run x in r .seen .state .closed ≡ false
+          → (b : Bool) → stateAfter w tag key run .closed ≡ b → Like (r .seen .state) (made tag key (eventsOf w tag key run ++ r .events))
+      more run x ih o true c = absurd (false≢true (sym o ∙ ap (λ (t : State). t .closed) (closed-step w tag (stateAfter w tag key run) (x .bytes) c (x .call) .0) ∙ c))
+      more run x ih o false c =
+          let s = stateAfter w tag key run in
+          let r = result w tag key run x in
+          let all = eventsOf w tag key run in
+          like-trans (r .seen .state) (told tag s (r .events)) (made tag key (all ++ r .events)) (step-told tag w s (x .bytes) (x .call) o) (like-made tag key s all (r .events) (ih c))
 
   pub run-hashed : (run : List Lent) → stateAfter w tag key run .closed ≡ false → Hashed tag (stateAfter w tag key run) (logOf w tag key run)
   unfolding withMarks

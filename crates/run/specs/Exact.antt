@@ -4,8 +4,8 @@
 -- taken in its period, by a call or by the check itself, had a stamp ahead of the clock of its time. The period is demand 3's: all that was done since
 -- the accepted check before, or since the start, with the check's own takes at its end.
 --
--- And at any time, as long as the state is not closed, it tells of the period so far: its hashes are those of the entries put and taken, and a fault is
--- marked exactly when a stamp was ahead.
+-- And at any time, as long as the state is not closed, it tells of the period so far: its hashes are those of the entries put and taken, under the key of
+-- the start, and no fault is marked exactly when no stamp was ahead.
 --
 -- The clock is told by what was done: 0 at the start, a put's stamp after that put, 1 after an accepted check. It is the state's clock.
 -- Of the tag nothing is asked, nor of the stamp's width. Assumes nothing.
@@ -42,10 +42,11 @@ NoneAhead past es = (p q : List Event) (e : Entry) → es ≡ p ++ (took e ∷ q
 abbrev pub OnePeriod : Type 0
 OnePeriod = (all : List Event) → (period : List Event) × Since all period × ((other : List Event) → Since all other → other ≡ period)
 
--- the state s tells of all that was done, with these tags
-pub record Tells (tag : Entry → List ℕ) (s : State) (all period : List Event) (since : Since all period) : Type 0 where
-  pub put : s .put ≡ hash tag (putIn period)
-  pub take : s .take ≡ hash tag (takenIn period)
+-- the state s tells of all that was done since a start with the key k
+pub record Tells (tag : List ℕ → Entry → List ℕ) (k : List ℕ) (s : State) (all period : List Event) (since : Since all period) : Type 0 where
+  pub key : s .key ≡ k
+  pub put : s .put ≡ hash (tag k) (putIn period)
+  pub take : s .take ≡ hash (tag k) (takenIn period)
   pub clock : s .clock ≡ clockAfter all
   pub fault : (s .fault ≡ false) ↔ NoneAhead (since .past) period
 
@@ -53,7 +54,7 @@ module _ (w : ℕ) (tag : List ℕ → Entry → List ℕ) where
   abbrev pub StateExact : Type 0
   StateExact =
       (key : List ℕ) (run : List Lent) → stateAfter w tag key run .closed ≡ false
-      → (period : List Event) (since : Since (eventsOf w tag key run) period) → Tells (tag key) (stateAfter w tag key run) (eventsOf w tag key run) period since
+      → (period : List Event) (since : Since (eventsOf w tag key run) period) → Tells tag key (stateAfter w tag key run) (eventsOf w tag key run) period since
 
   abbrev pub CheckExact : Type 0
   CheckExact =
