@@ -4,7 +4,7 @@ use mathlib.Core.Path.{_≡_, refl, sym, ap, _∙_, subst}
 use mathlib.Core.Bool.{Bool, true, false, false≢true}
 use mathlib.Core.List.{List, [], _∷_, _++_, append-nil, append-assoc, foldl-append}
 use mathlib.Core.Logic.{_⊎_, inl, inr, ⊎-elim, _↔_}
-use Prim.Native.Nat.{ℕ, _≤_}
+use Prim.Native.Nat.{ℕ}
 use native.Mathlib.Omega.{arith}
 use lib.Dec.{ltb}
 use borrow.Author.Tests.{ltb-false, le-ltb}
@@ -20,7 +20,7 @@ use Rattle.state.proofs.Ready.{check-ready}
 use Rattle.state.proofs.Guards.{accepts-tells, equal-accepts}
 use Rattle.run.specs.Calls.{check, step}
 use Rattle.run.specs.Demand3.{Since, stateAfter, eventsOf}
-use Rattle.run.specs.Exact.{clockAfter, NoneAhead, OnePeriod, Tells, StateExact, CheckExact}
+use Rattle.run.specs.Exact.{clockAfter, Ahead, NoneAhead, OnePeriod, Tells, StateExact, CheckExact}
 use Rattle.run.proofs.Lists.{by-last, no-place, last-place, place-stays}
 use Rattle.run.proofs.Logs.{noLog, Unbroken, follow, since-puts, since-takes, since-now, since-one}
 use Rattle.run.proofs.Steps.{number-done}
@@ -37,27 +37,27 @@ isTake accepted = false
 -- ---- stamps that are not ahead
 
 -- with one event more, no take was ahead where none was before and this is none that is
-none-last : (past es : List Event) (v : Event) → NoneAhead past (es ++ (v ∷ [])) ↔ (NoneAhead past es × ((e : Entry) → v ≡ took e → e .stamp ≤ clockAfter (past ++ es)))
+none-last : (past es : List Event) (v : Event) → NoneAhead past (es ++ (v ∷ [])) ↔ (NoneAhead past es × ((e : Entry) → v ≡ took e → Ahead (clockAfter (past ++ es)) e → ⊥))
 none-last past es v = (
   (λ n. ((λ p q e g. n p (q ++ (v ∷ [])) e (place-stays es p (took e) q (v ∷ []) g)), λ e h. n es [] e (ap (λ (x : Event). es ++ (x ∷ [])) h))),
   λ h p q e g. go (h .0) (h .1) p q e (last-place es v p (took e) q g),
 )
   where
-    go : NoneAhead past es → ((e : Entry) → v ≡ took e → e .stamp ≤ clockAfter (past ++ es)) → (p q : List Event) (e : Entry)
-        → ((r : List Event) × (es ≡ p ++ (took e ∷ r)) × (q ≡ r ++ (v ∷ []))) ⊎ ((p ≡ es) × (took e ≡ v)) → e .stamp ≤ clockAfter (past ++ p)
+    go : NoneAhead past es → ((e : Entry) → v ≡ took e → Ahead (clockAfter (past ++ es)) e → ⊥) → (p q : List Event) (e : Entry)
+        → ((r : List Event) × (es ≡ p ++ (took e ∷ r)) × (q ≡ r ++ (v ∷ []))) ⊎ ((p ≡ es) × (took e ≡ v)) → Ahead (clockAfter (past ++ p)) e → ⊥
     go n h p q e (inl (r, f, g)) = n p r e f
-    go n h p q e (inr (f, g)) = subst (λ (p : List Event). e .stamp ≤ clockAfter (past ++ p)) (sym f) (h e (sym g))
+    go n h p q e (inr (f, g)) = subst (λ (p : List Event). Ahead (clockAfter (past ++ p)) e → ⊥) (sym f) (h e (sym g))
 
-no-take : (s : State) (c : ℕ) (v : Event) → isTake v ≡ false → (s .fault ≡ false) ↔ ((s .fault ≡ false) × ((e : Entry) → v ≡ took e → e .stamp ≤ c))
+no-take : (s : State) (c : ℕ) (v : Event) → isTake v ≡ false → (s .fault ≡ false) ↔ ((s .fault ≡ false) × ((e : Entry) → v ≡ took e → Ahead c e → ⊥))
 no-take s c v n = ((λ h. (h, λ e q. absurd (false≢true (sym n ∙ ap isTake q)))), λ h. h .0)
 
 module _ (tag : List ℕ → Entry → List ℕ) where
   -- one event that is no accepted check leaves no fault where none was and it is no take that is ahead of the clock c
-  fault-moved : (s : State) (c : ℕ) → s .clock ≡ c → (v : Event) → (v ≡ accepted → ⊥) → (moved tag s v .fault ≡ false) ↔ ((s .fault ≡ false) × ((e : Entry) → v ≡ took e → e .stamp ≤ c))
+  fault-moved : (s : State) (c : ℕ) → s .clock ≡ c → (v : Event) → (v ≡ accepted → ⊥) → (moved tag s v .fault ≡ false) ↔ ((s .fault ≡ false) × ((e : Entry) → v ≡ took e → Ahead c e → ⊥))
   unfolding moved takeEntry putEntry
   fault-moved s c t (took d) n = (
-    (λ h. let k = neither (s .fault) (ltb (s .clock) (d .stamp)) h in (k .0, λ e q. let f : d .stamp ≡ e .stamp = cc in omega (arith, ltb-false (s .clock) (d .stamp) (k .1)))),
-    λ h. rw (h .0, le-ltb (s .clock) (d .stamp) (omega (arith, h .1 d refl))),
+    (λ h. let k = neither (s .fault) (ltb (s .clock) (d .stamp)) h in (k .0, λ e q a. let f : d .stamp ≡ e .stamp = cc in omega (arith, ltb-false (s .clock) (d .stamp) (k .1)))),
+    λ h. let k : Ahead c d → ⊥ = h .1 d refl in rw (h .0, le-ltb (s .clock) (d .stamp) (omega arith)),
   )
   fault-moved s c t (put d) n = no-take s c (put d) refl
   fault-moved s c t (answered a v) n = no-take s c (answered a v) refl

@@ -13,7 +13,7 @@ use mathlib.Core.Path.{_≡_}
 use mathlib.Core.Bool.{false}
 use mathlib.Core.List.{List, _∷_, _++_, foldl}
 use mathlib.Core.Logic.{_↔_}
-use Prim.Native.Nat.{ℕ, _≤_}
+use Prim.Native.Nat.{ℕ, _<_}
 use Rattle.state.specs.Cells.{Entry}
 use Rattle.state.specs.Multiset.{hash}
 use Rattle.state.specs.Step.{Event, took, put, answered, set, dropped, accepted}
@@ -34,9 +34,13 @@ tick c accepted = 1
 abbrev pub clockAfter : List Event → ℕ
 clockAfter = foldl tick 0
 
--- of what was done after `past`, no take had a stamp ahead of the clock of its time
+-- an entry taken at the clock c has a stamp ahead of it
+abbrev pub Ahead : ℕ → Entry → Type 0
+Ahead c e = c < e .stamp
+
+-- of what was done after `past`, no take was ahead of the clock of its time
 abbrev pub NoneAhead : List Event → List Event → Type 0
-NoneAhead past es = (p q : List Event) (e : Entry) → es ≡ p ++ (took e ∷ q) → e .stamp ≤ clockAfter (past ++ p)
+NoneAhead past es = (p q : List Event) (e : Entry) → es ≡ p ++ (took e ∷ q) → Ahead (clockAfter (past ++ p)) e → ⊥
 
 -- whatever was done, there is one period, and no other
 abbrev pub OnePeriod : Type 0
