@@ -1,5 +1,6 @@
--- The ends of the statement: the latest call and the value last set are one, so a load has one right answer; an empty run, a refused start and a run that only refuses
--- are covered; a check right after a start accepts; and a store that hands back what was left meets the second half's condition. Assumes nothing.
+-- The ends of the statement: the latest call and the value last set are one, so a load has one right answer; an empty run, a run that only refuses and a
+-- refused start are covered; a check right after a start accepts; and a store that hands back what was left meets the second half's condition.
+-- Assumes nothing.
 use mathlib.Core.Path.{_≡_, refl, sym, ap, ap₂, _∙_, subst}
 use mathlib.Core.Bool.{Bool, true, false}
 use mathlib.Core.List.{List, [], _∷_, _++_, append-nil, append-assoc, head-eq-of-cons-eq, tail-eq-of-cons-eq}

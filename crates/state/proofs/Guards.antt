@@ -1,5 +1,5 @@
--- What each call does to the clock, to the fault mark and to the hashes, one short law for each sentence of the moves: by computation, or address by
--- address. Assumes nothing.
+-- What each call does to the state, every field of it, one short law for each sentence of the moves: by computation, or address by address.
+-- Assumes nothing.
 use mathlib.Core.Path.{_≡_, refl, sym, ap, _∙_}
 use mathlib.Core.Bool.{Bool, true, false, not, _||_, or-true}
 use mathlib.Core.List.{List, [], _∷_, _++_, append-assoc, foldl, foldl-append}
@@ -29,17 +29,7 @@ module _ (tag : List ℕ → Entry → List ℕ) (s : State) where
   unfolding next putEntry
   put-raises a v = (refl, refl)
 
-  -- its entry is added to the put hash, and to that alone
-  pub put-hashes : (e : Entry) → (putEntry tag s e .put ≡ withTag (s .put) (tag (s .key) e)) × (putEntry tag s e .take ≡ s .take)
-  unfolding putEntry
-  put-hashes e = (refl, refl)
-
-  -- a take adds the entry to the take hash, and to that alone
-  pub take-hashes : (e : Entry) → (takeEntry tag s e .take ≡ withTag (s .take) (tag (s .key) e)) × (takeEntry tag s e .put ≡ s .put)
-  unfolding takeEntry
-  take-hashes e = (refl, refl)
-
-  -- and marks a fault exactly where one was marked or the stamp is above the clock
+  -- a take marks a fault exactly where one was marked or the stamp is above the clock
   pub fault-marked : (e : Entry) → takeEntry tag s e .fault ≡ true → (s .fault ≡ true) ⊎ (s .clock < e .stamp)
   unfolding takeEntry
   fault-marked e h = go (s .fault) refl
