@@ -1,18 +1,18 @@
 -- Each clause of the second demand is proved where its definitions stand; the third holds for every tag, so for the store's. Assumes nothing.
-use mathlib.Core.Path.{_≡_}
-use Prim.Native.Nat.{ℕ}
+use native.Mathlib.Omega.{arith}
 use Rattle.refusal.proofs.Exact.{exactly}
 use Rattle.constants.proofs.Rule.{K-rule, H0-rule}
 use Rattle.state.specs.Sizes.{width, valueSize}
 use Rattle.state.specs.Check.{checkRows}
 use Rattle.state.proofs.Multiset.{same-counts}
-use Rattle.state.proofs.Messages.{Sized, message-injective}
+use Rattle.state.proofs.Messages.{message-injective}
 use Rattle.state.proofs.Guards.{accepts-tells, equal-accepts, fault-marked, marks-fault}
 use Rattle.multiset.specs.Tag.{tag}
 use Rattle.filter.proofs.Trips.{one-to-one}
 use Rattle.filter.proofs.Compares.{compared}
-use Rattle.run.proofs.Demand3.{demand3-here}
-use Rattle.promises.specs.Demands.{Fits, SecondDemand, ThirdDemand}
+use Rattle.run.proofs.Demand3.{demand3}
+use Rattle.run.proofs.Exact.{one-period, state-exact, check-exact}
+use Rattle.promises.specs.Demands.{SecondDemand, ThirdDemand}
 
 pub second-demand : SecondDemand
 unfolding valueSize
@@ -25,9 +25,12 @@ second-demand = record {
       let z = exactly 0 (checkRows width s m) .0 g in
       ((λ v. accepts-tells width tag s m z v), (λ h. equal-accepts width tag s m z (h .0) (h .1)));
   fault-marked = λ s e. ((λ h. fault-marked tag s e h), (λ h. marks-fault tag s e h));
+  check-exactly = check-exact width tag;
+  state-exactly = state-exact width tag;
+  one-period = one-period;
   filters = one-to-one;
   comparison = compared;
 }
 
 pub third-demand : ThirdDemand
-third-demand = demand3-here tag
+third-demand = demand3 width (omega arith) tag

@@ -19,6 +19,7 @@ use Rattle.state.specs.declared.Verdict.the-variants.{Accept}
 use Rattle.multiset.specs.Tag.{tag}
 use Rattle.filter.specs.Promises.{OneToOne, Compared}
 use Rattle.run.specs.Demand3.{Demand3}
+use Rattle.run.specs.Exact.{OnePeriod, StateExact, CheckExact}
 
 -- an entry whose parts fit their places in a message
 pub record Fits (e : Entry) : Type 0 where
@@ -41,6 +42,11 @@ pub record SecondDemand : Type 0 where
       ↔ ((takeBelow width tag s m addresses .put ≡ takeBelow width tag s m addresses .take) × (takeBelow width tag s m addresses .fault ≡ false))
   -- a take leaves a fault marked exactly when one was, or its stamp is ahead of the clock
   pub fault-marked : (s : State) (e : Entry) → (takeEntry tag s e .fault ≡ true) ↔ ((s .fault ≡ true) ⊎ (s .clock < e .stamp))
+  -- of whole runs: a check that is done accepts exactly when the hashes of its period agree and no stamp in it was ahead of the clock of its time; at any
+  -- time a state that is not closed tells as much of its period, of which there is one
+  pub check-exactly : CheckExact width tag
+  pub state-exactly : StateExact width tag
+  pub one-period : OnePeriod
   -- lawful filter records and lawful bytes stand one to one; the comparison is exact
   pub filters : OneToOne
   pub comparison : Compared

@@ -1,6 +1,6 @@
 -- Of the entries put in a period no two are alike: they are the puts that are written down, of which that holds in every run. Assumes nothing.
 use mathlib.Core.Path.{_≡_, sym, ap, _∙_, subst}
-use mathlib.Core.List.{List, _++_}
+use mathlib.Core.List.{List, _++_, foldl-append}
 use Prim.Native.Nat.{ℕ}
 use Rattle.state.specs.Sizes.{addresses}
 use Rattle.state.specs.Cells.{Entry}
@@ -8,7 +8,7 @@ use Rattle.state.specs.Step.{Event}
 use Rattle.state.specs.Check.{takes}
 use Rattle.run.specs.Calls.{Lent}
 use Rattle.run.specs.Demand3.{NoTwoAlike, putIn, takenIn, Since, stateAfter, eventsOf}
-use Rattle.run.proofs.Logs.{Log, noLog, follow, follow-append, since-puts, since-takes}
+use Rattle.run.proofs.Logs.{Log, noLog, noted, follow, since-puts, since-takes}
 use Rattle.run.proofs.Walk.{takenL, taken-puts, taken-log}
 use Rattle.run.proofs.Runs.{logOf}
 use Rattle.run.proofs.Always.{stamps}
@@ -18,7 +18,7 @@ module _ (w : ℕ) (tag : List ℕ → Entry → List ℕ) (key : List ℕ) (run
   module _ (m : List ℕ) (period : List Event) (p : Since (eventsOf w tag key run ++ takes w (stateAfter w tag key run) m) period) where
     written : follow noLog (eventsOf w tag key run ++ takes w (stateAfter w tag key run) m) ≡ takenL w (stateAfter w tag key run) m (logOf w tag key run) addresses
     written =
-        follow-append noLog (eventsOf w tag key run) (takes w (stateAfter w tag key run) m) ∙ taken-log w (stateAfter w tag key run) m (logOf w tag key run)
+        foldl-append noted noLog (eventsOf w tag key run) (takes w (stateAfter w tag key run) m) ∙ taken-log w (stateAfter w tag key run) m (logOf w tag key run)
 
     pub period-puts : logOf w tag key run .puts ≡ putIn period
     period-puts =

@@ -1,34 +1,32 @@
--- What holds in every run, its state closed or not: the key is the start's, a closed state stays closed and accepts nothing, and of the puts since the
+-- What holds in every run, its state closed or not: a closed state gives itself back and no verdict, and of the puts since the
 -- last accepted check no two are alike, since each has a stamp above all before it. By the calls one by one. Assumes nothing.
-use mathlib.Core.Path.{_≡_, refl, sym, ap, ap₂, _∙_, subst}
+use mathlib.Core.Path.{_≡_, refl, sym, ap, _∙_, subst}
 use mathlib.Core.Bool.{true, false, false≢true}
-use mathlib.Core.List.{List, [], _++_}
+use mathlib.Core.List.{List, []}
 use mathlib.Core.Logic.{_≢_}
 use Prim.Native.Nat.{ℕ, zero, suc, _+_, _≤_}
 use native.Mathlib.Nat.{one-le-pow, pow-succ'}
 use native.Mathlib.Omega.{arith}
-use lib.ListN.{length}
 use Rattle.refusal.specs.Refusal.{first}
 use Rattle.state.specs.Sizes.{addresses, ceiling}
 use Rattle.state.specs.Cells.{Entry, entryAt, valueAt}
 use Rattle.state.specs.Counts.{times}
-use Rattle.state.specs.Start.{fresh, none, startOf}
+use Rattle.state.specs.Start.{fresh, none}
 use Rattle.state.specs.Step.{Step, withMarks, shut, next, takeEntry, putEntry}
 use Rattle.state.specs.Moves.{added, loaded, stored, removed}
 use Rattle.state.specs.Check.{agrees, takeBelow, acceptance, rejection}
 use Rattle.state.specs.declared.State.{State}
-use Rattle.state.specs.declared.Started.{Started}
-use Rattle.state.specs.declared.Verdict.the-variants.{Accept, Nothing}
-use Rattle.state.proofs.Starts.{start-refused}
-use Rattle.run.specs.Calls.{Call, add, load, store, remove, check, look, count, lowest, Lent, lent, moves, step, after, events}
-use Rattle.run.specs.Demand3.{stateAfter, result, eventsOf, Accepts}
+use Rattle.state.specs.declared.Verdict.the-variants.{Nothing}
+use Rattle.state.proofs.Guards.{opens-below}
+use Rattle.run.specs.Calls.{Call, add, load, store, remove, check, look, count, lowest, Lent, moves, step, after, events}
+use Rattle.run.specs.Demand3.{stateAfter}
 use Rattle.run.proofs.Lists.{by-last}
 use Rattle.run.proofs.Logs.{Log, putL, takeL, noLog, noted, follow}
 use Rattle.run.proofs.Micro.{Stamps, take-stamps, put-stamps}
-use Rattle.run.proofs.Walk.{by-choose, taken-puts, taken-log, opened-log, open-clock, open-stamps, open-same}
+use Rattle.run.proofs.Walk.{by-choose, taken-puts, taken-log, opened-log, open-stamps}
 use Rattle.state.proofs.Ready.{add-ready, use-ready, remove-ready, check-ready}
 use Rattle.run.proofs.Steps.{rowsOf, whenDone, by-call}
-use Rattle.run.proofs.Runs.{by-start, logOf, state-last, events-last, by-step}
+use Rattle.run.proofs.Runs.{by-start, logOf, by-step}
 
 -- a call that takes or puts is refused where the state is closed
 pub not-closed : (w : ℕ) (s : State) (m : List ℕ) (c : Call) → moves c ≡ true → first (rowsOf w s m c) ≡ 0 → s .closed ≡ false
@@ -54,22 +52,8 @@ stamps-move s t l k e f h =
 module _ (w : ℕ) (tag : List ℕ → Entry → List ℕ) (s : State) (m : List ℕ) where
   -- ---- one call
 
-  step-key : (c : Call) → step w tag s m c .seen .state .key ≡ s .key
-  unfolding added loaded stored removed acceptance rejection withMarks shut putEntry takeEntry
-  step-key c = by-call w tag s m (λ (r : Step). r .seen .state .key ≡ s .key) c (λ e. go c) (λ n e. refl)
-    where
-      go : (c : Call) → whenDone w tag s m c .seen .state .key ≡ s .key
-      go (add a v) = refl
-      go (load a o) = refl
-      go (store a v) = refl
-      go (remove a) = refl
-      go check = by-choose (λ (r : Step). r .seen .state .key ≡ s .key) (agrees (takeBelow w tag s m addresses)) (λ k. open-same w s m tag addresses .key) (λ k. refl)
-      go (look a) = refl
-      go count = refl
-      go lowest = refl
-
   -- a closed state gives itself back, and no verdict
-  closed-step : s .closed ≡ true → (c : Call) → (step w tag s m c .seen .state ≡ s) × (step w tag s m c .seen .verdict ≡ Nothing) × (step w tag s m c .events ≡ [])
+  pub closed-step : s .closed ≡ true → (c : Call) → (step w tag s m c .seen .state ≡ s) × (step w tag s m c .seen .verdict ≡ Nothing) × (step w tag s m c .events ≡ [])
   closed-step k c =
       by-call w tag s m (λ (r : Step). (r .seen .state ≡ s) × (r .seen .verdict ≡ Nothing) × (r .events ≡ [])) c (go c) (λ n e. (refl, refl, refl))
     where
@@ -87,7 +71,7 @@ module _ (w : ℕ) (tag : List ℕ → Entry → List ℕ) (s : State) (m : List
       go lowest e = (refl, refl, refl)
 
   step-stamps : (l : Log) → Stamps s l → (c : Call) → Stamps (step w tag s m c .seen .state) (follow l (step w tag s m c .events))
-  unfolding added loaded stored removed acceptance rejection withMarks shut takeEntry next follow noted
+  unfolding added loaded stored removed acceptance rejection withMarks shut takeEntry next noted
   step-stamps l h c = by-call w tag s m (λ (r : Step). Stamps (r .seen .state) (follow l (r .events))) c (λ e. go c) (λ n e. h)
     where
       exchange : (a : ℕ) (v : List ℕ) → let t = takeEntry tag s (entryAt w m a) in Stamps (putEntry tag t (next t a v)) (putL (takeL l (entryAt w m a)) (next t a v))
@@ -123,7 +107,7 @@ module _ (w : ℕ) (tag : List ℕ → Entry → List ℕ) (s : State) (m : List
       go (remove a) e = h
       go check e =
           by-choose (λ (r : Step). r .seen .state .clock ≤ ceiling w) (agrees (takeBelow w tag s m addresses))
-          (λ k. omega (arith, open-clock w s m tag addresses, ceiling-one w one))
+          (λ k. omega (arith, opens-below w tag s m addresses .clock, ceiling-one w one))
           (λ k. h)
       go (look a) e = h
       go count e = h
@@ -132,14 +116,8 @@ module _ (w : ℕ) (tag : List ℕ → Entry → List ℕ) (s : State) (m : List
 module _ (w : ℕ) (tag : List ℕ → Entry → List ℕ) (key : List ℕ) where
   -- ---- a run
 
-  pub key-kept : (run : List Lent) → stateAfter w tag key run .key ≡ startOf key .state .key
-  unfolding after
-  key-kept =
-      by-last (λ (run : List Lent). stateAfter w tag key run .key ≡ startOf key .state .key) refl
-      (λ run x h. by-step w tag key run x (λ s l. s .key ≡ startOf key .state .key) (step-key w tag (stateAfter w tag key run) (x .bytes) (x .call) ∙ h))
-
   pub stamps : (run : List Lent) → Stamps (stateAfter w tag key run) (logOf w tag key run)
-  unfolding after events follow noLog times
+  unfolding after events noLog times
   stamps =
       by-last (λ (run : List Lent). Stamps (stateAfter w tag key run) (logOf w tag key run)) (record { later = λ c h. refl; alike = λ c. omega arith })
       (λ run x h. by-step w tag key run x Stamps (step-stamps w tag (stateAfter w tag key run) (x .bytes) (logOf w tag key run) h (x .call)))
@@ -149,25 +127,3 @@ module _ (w : ℕ) (tag : List ℕ → Entry → List ℕ) (key : List ℕ) wher
   clock-bounded one =
       by-last (λ (run : List Lent). stateAfter w tag key run .clock ≤ ceiling w) (by-start key (λ (s : State). s .clock ≤ ceiling w) (λ e. omega arith) (λ e. omega arith))
       (λ run x h. by-step w tag key run x (λ s l. s .clock ≤ ceiling w) (step-clock w tag (stateAfter w tag key run) (x .bytes) one h (x .call)))
-
-  -- from a refused start the state stays as it is, and no call does anything: no check gives a verdict
-  pub refused-start : (length key ≡ 32 → ⊥) → (run : List Lent) → (stateAfter w tag key run ≡ none) × (eventsOf w tag key run ≡ [])
-  unfolding after events none fresh
-  refused-start n =
-      by-last (λ (run : List Lent). (stateAfter w tag key run ≡ none) × (eventsOf w tag key run ≡ [])) (ap (λ (r : Started). r .state) (start-refused key n), refl)
-      (λ run x h.
-      let k = closed-step w tag (stateAfter w tag key run) (x .bytes) (ap (λ (s : State). s .closed) (h .0)) (x .call) in
-      (state-last w tag key run x ∙ k .0 ∙ h .0, events-last w tag key run x ∙ ap₂ _++_ (h .1) (k .2)))
-
-  pub refused-silent : (length key ≡ 32 → ⊥) → (run : List Lent) (x : Lent) → result w tag key run x .seen .verdict ≡ Nothing
-  unfolding none fresh
-  refused-silent n run x =
-      closed-step w tag (stateAfter w tag key run) (x .bytes) (ap (λ (s : State). s .closed) (refused-start n run .0)) (x .call) .1
-
-  -- the key of a state in which a check accepts is the key that the start was given
-  pub accepted-key : (run : List Lent) (m : List ℕ) → Accepts w tag key run m → stateAfter w tag key run .key ≡ key
-  unfolding fresh
-  accepted-key run m a = key-kept run ∙ by-start key (λ (s : State). s .key ≡ key) (λ e. refl) (λ e. absurd (never e))
-    where
-      never : (length key ≡ 32 → ⊥) → ⊥
-      never n = let z : Accept ≡ Nothing = sym a ∙ refused-silent n run (lent check m) in let y : _≡_ {A = ℕ} 0 1 = cc in omega arith

@@ -24,6 +24,7 @@ use Rattle.run.proofs.Steps.{rowsOf, whenDone, by-call, step-done, done
 use Rattle.run.proofs.Runs.{by-start, logOf, by-step, latest-here, latest-keeps}
 use Rattle.run.proofs.Moves.{there}
 use Rattle.run.proofs.Always.{not-closed, stamps, clock-bounded}
+use Rattle.run.proofs.Told.{run-hashed}
 use Rattle.run.proofs.Sound.{all}
 use Rattle.run.proofs.Honest.{Holds, Fine, agreed, done-fine}
 
@@ -78,13 +79,13 @@ module _ (w : ℕ) (one : 1 ≤ w) (tag : List ℕ → Entry → List ℕ) (key 
   done-more : (run : List Lent) (x : Lent) → Unaltered w tag key (run ++ (x ∷ [])) → FineIf run (s run x) (l run x) → first (rowsOf w (s run x) (x .bytes) (x .call)) ≡ 0
       → (b : Bool) → moves (x .call) ≡ b
       → let r = whenDone w tag (s run x) (x .bytes) (x .call) in FineIf (run ++ (x ∷ [])) (r .seen .state) (follow (l run x) (r .events))
-  unfolding follow Kept latest-here
+  unfolding Kept latest-here
   done-more run x u f e true k o =
       let c = not-closed w (s run x) (x .bytes) (x .call) k e in
       let d : Moved w tag key run x = (done-number w tag (s run x) (x .bytes) (x .call) e, k) in
       let a = all w tag key run c in
       let r = whenDone w tag (s run x) (x .bytes) (x .call) in
-      let y = done-fine w one tag (s run x) (l run x) (x .bytes) (stamps w tag key run) (a .hashed) (a .fit) (lent-fine run x u f d c) (clock-bounded w tag key one run) (x .call) e in
+      let y = done-fine w one tag (s run x) (l run x) (x .bytes) (stamps w tag key run) (run-hashed w tag key run c) (a .fit) (lent-fine run x u f d c) (clock-bounded w tag key one run) (x .call) e in
       record {
         balance = y .balance;
         faultless = y .faultless;
@@ -97,7 +98,7 @@ module _ (w : ℕ) (one : 1 ≤ w) (tag : List ℕ → Entry → List ℕ) (key 
   unaltered-part p q u before later x e = u before (later ++ q) x (place-stays p before x later q e)
 
   fine : (run : List Lent) → Unaltered w tag key run → FineIf run (stateAfter w tag key run) (logOf w tag key run)
-  unfolding after events follow noLog start.none fresh times Kept
+  unfolding after events noLog start.none fresh times Kept
   fine = by-last (λ (run : List Lent). Unaltered w tag key run → FineIf run (stateAfter w tag key run) (logOf w tag key run)) begin more
     where
       begin : Unaltered w tag key [] → FineIf [] (startOf key .state) noLog
@@ -121,7 +122,7 @@ module _ (w : ℕ) (one : 1 ≤ w) (tag : List ℕ → Entry → List ℕ) (key 
       let e = number-done w tag (s run x) m check d in
       let c = not-closed w (s run x) m check refl e in
       let a = all w tag key run c in
-      let k = agreed w one tag (s run x) (l run x) m (stamps w tag key run) (a .hashed) (a .fit) (lent-fine run x u (fine run (unaltered-part run (x ∷ []) u)) (d, refl) c) in
+      let k = agreed w one tag (s run x) (l run x) m (stamps w tag key run) (run-hashed w tag key run c) (a .fit) (lent-fine run x u (fine run (unaltered-part run (x ∷ []) u)) (d, refl) c) in
       let q : result w tag key run x ≡ acceptance w tag (s run x) m = step-done w tag (s run x) m check e ∙ rw k in
       ap (λ (r : Step). r .seen .verdict) q
 

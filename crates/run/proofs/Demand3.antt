@@ -1,16 +1,10 @@
 -- Demand 3, both halves, for a stamp of a byte or more and for any tag. Assumes nothing.
 use mathlib.Core.List.{List}
 use Prim.Native.Nat.{ℕ, _≤_}
-use native.Mathlib.Omega.{arith}
-use Rattle.state.specs.Sizes.{width}
 use Rattle.state.specs.Cells.{Entry}
-use Rattle.run.specs.Demand3.{Demand3, Demand3Here}
+use Rattle.run.specs.Demand3.{Demand3}
 use Rattle.run.proofs.Sound.{sound}
 use Rattle.run.proofs.Complete.{complete}
 
 pub demand3 : (w : ℕ) → 1 ≤ w → (tag : List ℕ → Entry → List ℕ) → Demand3 w tag
 demand3 w one tag key run = (sound w tag key run, complete w one tag key run)
-
--- at today's width
-pub demand3-here : (tag : List ℕ → Entry → List ℕ) → Demand3Here tag
-demand3-here tag = demand3 width (omega arith) tag

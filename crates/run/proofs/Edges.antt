@@ -1,5 +1,6 @@
--- The ends of the statement: the latest call and the value last set are one, so a load has one right answer; an empty run and one that only refuses are
--- covered; a check right after a start accepts; and a store that hands back what was left meets the second half's condition. Assumes nothing.
+-- The ends of the statement: the latest call and the value last set are one, so a load has one right answer; an empty run, a run that only refuses and a
+-- refused start are covered; a check right after a start accepts; and a store that hands back what was left meets the second half's condition.
+-- Assumes nothing.
 use mathlib.Core.Path.{_≡_, refl, sym, ap, ap₂, _∙_, subst}
 use mathlib.Core.Bool.{Bool, true, false}
 use mathlib.Core.List.{List, [], _∷_, _++_, append-nil, append-assoc, head-eq-of-cons-eq, tail-eq-of-cons-eq}
@@ -10,17 +11,19 @@ use borrow.Author.Tests.{eq-eqb}
 use Rattle.state.specs.Sizes.{storeSize}
 use Rattle.refusal.specs.Refusal.{first}
 use Rattle.state.specs.Cells.{Entry, entryAt}
-use Rattle.state.specs.Start.{fresh, startOf}
+use Rattle.state.specs.Start.{fresh, none, startOf}
 use Rattle.state.specs.Check.{checkRows}
 use Rattle.state.specs.Step.{Step}
 use Rattle.state.specs.declared.State.{State}
 use Rattle.state.specs.declared.Started.{Started}
-use Rattle.state.proofs.Starts.{start-done}
+use Rattle.state.specs.declared.Verdict.the-variants.{Nothing}
+use Rattle.state.proofs.Starts.{start-done, start-refused}
 use Rattle.run.specs.Calls.{load, check, Lent, lent, moves, after, events}
 use Rattle.run.specs.Demand3.{Latest, stateAfter, result, eventsOf, Done, Accepts, LastSet, EachLoad, LastAccepts, Moved, Unaltered}
 use Rattle.run.proofs.Lists.{by-last, place-in, no-place, last-place, place-stays}
 use Rattle.run.proofs.Steps.{rowsOf, whenDone, by-call, done-number}
 use Rattle.run.proofs.Runs.{kind, sets-told, state-last, events-last}
+use Rattle.run.proofs.Always.{closed-step}
 use Rattle.run.proofs.Complete.{idle-done, complete-at}
 
 -- ---- the latest call is one
@@ -71,6 +74,20 @@ module _ (w : ℕ) (tag : List ℕ → Entry → List ℕ) (key : List ℕ) wher
           let h = ih (λ before later y e. n before (later ++ (x ∷ [])) y (place-stays run before y later (x ∷ []) e)) in
           let k = one run x (n run [] x refl) in
           (state-last w tag key run x ∙ k .0 ∙ h .0, events-last w tag key run x ∙ ap₂ _++_ (h .1) (k .1)))
+
+  -- from a refused start the state stays as it is, and no call does anything: no check gives a verdict
+  pub refused-start : (length key ≡ 32 → ⊥) → (run : List Lent) → (stateAfter w tag key run ≡ none) × (eventsOf w tag key run ≡ [])
+  unfolding after events none fresh
+  refused-start n =
+      by-last (λ (run : List Lent). (stateAfter w tag key run ≡ none) × (eventsOf w tag key run ≡ [])) (ap (λ (r : Started). r .state) (start-refused key n), refl)
+      (λ run x h.
+      let k = closed-step w tag (stateAfter w tag key run) (x .bytes) (ap (λ (s : State). s .closed) (h .0)) (x .call) in
+      (state-last w tag key run x ∙ k .0 ∙ h .0, events-last w tag key run x ∙ ap₂ _++_ (h .1) (k .2)))
+
+  pub refused-silent : (length key ≡ 32 → ⊥) → (run : List Lent) (x : Lent) → result w tag key run x .seen .verdict ≡ Nothing
+  unfolding none fresh
+  refused-silent n run x =
+      closed-step w tag (stateAfter w tag key run) (x .bytes) (ap (λ (s : State). s .closed) (refused-start n run .0)) (x .call) .1
 
   -- a check right after a start accepts, whatever the store holds
   pub first-check : 1 ≤ w → length key ≡ 32 → (m : List ℕ) → length m ≡ storeSize w → Accepts w tag key [] m

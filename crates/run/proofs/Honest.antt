@@ -21,13 +21,14 @@ use Rattle.state.specs.Moves.{added, loaded, stored, removed}
 use Rattle.state.specs.Check.{opening, putBelow, agrees, takeBelow, openBelow, acceptance}
 use Rattle.state.specs.declared.State.{State}
 use Rattle.state.proofs.Cells.{value-length, write-length, entry-other, entry-written}
+use Rattle.state.proofs.Guards.{opens-below}
 use Rattle.state.proofs.Marks.{used-below}
 use Rattle.state.proofs.Multiset.{sameEntry-refl, equal-sameHash, same-counts}
 use Rattle.run.specs.Calls.{Call, add, load, store, remove, check, look, count, lowest}
 use Rattle.run.proofs.Logs.{Log, upd, putL, takeL, noted, follow}
 use Rattle.run.proofs.Balance.{upd-same, upd-other, upd-here, heldTimes, Balance, take-balance, put-balance}
 use Rattle.run.proofs.Micro.{Stamps, Hashed}
-use Rattle.run.proofs.Walk.{by-choose, below-suc, walk, takenL, taken-above, taken-none, taken-gone, taken-hashed, openL, opened-log, open-balance, open-same}
+use Rattle.run.proofs.Walk.{by-choose, below-suc, walk, takenL, taken-above, taken-none, taken-gone, taken-hashed, openL, opened-log, open-balance}
 use Rattle.state.proofs.Ready.{Ready, add-ready, use-ready, remove-ready, check-ready}
 use Rattle.run.proofs.Steps.{rowsOf, whenDone}
 use Rattle.run.proofs.Moves.{there, Fit, free, opened-held}
@@ -136,7 +137,7 @@ module _ (w : ℕ) (one : 1 ≤ w) (tag : List ℕ → Entry → List ℕ) (s : 
     raised n = below-bound w (s .clock + 1) (omega arith)
 
     add-fine : (a : ℕ) (v : List ℕ) → first (rowsOf w s m (add a v)) ≡ 0 → Fine w (added w tag s m a v .seen .state) (follow l (added w tag s m a v .events)) (added w tag s m a v .seen .store)
-    unfolding added follow noted putEntry putL withMarks next
+    unfolding added noted putEntry putL withMarks next
     add-fine a v e =
         let p = add-ready w s m a v e in
         let d = next s a v in
@@ -159,7 +160,7 @@ module _ (w : ℕ) (one : 1 ≤ w) (tag : List ℕ → Entry → List ℕ) (s : 
         }
 
     remove-fine : (a : ℕ) → first (rowsOf w s m (remove a)) ≡ 0 → Fine w (removed w tag s m a .seen .state) (follow l (removed w tag s m a .events)) (removed w tag s m a .seen .store)
-    unfolding removed follow noted takeL withMarks entryAt
+    unfolding removed noted takeL withMarks entryAt
     remove-fine a e =
         record { balance = take-balance l (entryAt w m a) (fine .balance) (right a (p .mark)); faultless = no-fault a (p .mark); holds = wiped }
       where
@@ -224,11 +225,11 @@ module _ (w : ℕ) (one : 1 ≤ w) (tag : List ℕ → Entry → List ℕ) (s : 
         by-choose (λ (r : Step). Fine w (r .seen .state) (follow l (r .events)) (r .seen .store)) (agrees (takeBelow w tag s m addresses))
         (λ k.
         subst (λ (g : Log). Fine w (openBelow w tag s m addresses) g (putBelow w (s .marks) m addresses)) (sym (opened-log w s m l))
-        (record { balance = open-balance w s m addresses; faultless = open-same w s m tag addresses .fault ∙ fine .faultless; holds = opened-holds (check-ready w s m e .1) }))
+        (record { balance = open-balance w s m addresses; faultless = opens-below w tag s m addresses .fault ∙ fine .faultless; holds = opened-holds (check-ready w s m e .1) }))
         (λ k. absurd (false≢true (sym k ∙ agreed)))
 
     pub done-fine : (c : Call) → first (rowsOf w s m c) ≡ 0 → Fine w (whenDone w tag s m c .seen .state) (follow l (whenDone w tag s m c .events)) (whenDone w tag s m c .seen .store)
-    unfolding loaded stored follow noted
+    unfolding loaded stored noted
     done-fine (add a v) e = add-fine a v e
     done-fine (load a o) e =
         let p = use-ready w s m a o e in

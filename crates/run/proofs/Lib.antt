@@ -7,6 +7,8 @@ pub mod Steps
 pub mod Runs
 pub mod Moves
 pub mod Always
+pub mod Told
+pub mod Exact
 pub mod Alike
 pub mod Sound
 pub mod Honest

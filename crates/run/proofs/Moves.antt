@@ -12,15 +12,16 @@ use Rattle.refusal.specs.Refusal.{first, choose}
 use Rattle.state.specs.Sizes.{addresses}
 use Rattle.state.specs.Marks.{used, marked, unmarked}
 use Rattle.state.specs.Cells.{Entry, valueAt, entryAt}
-use Rattle.state.specs.Step.{put, withMarks, next, takeEntry, putEntry}
+use Rattle.state.specs.Step.{withMarks, next, takeEntry, putEntry}
 use Rattle.state.specs.Moves.{addRows, removeRows, added, removed}
-use Rattle.state.specs.Check.{opening, agrees, takeBelow, openBelow}
+use Rattle.state.specs.Check.{opening, takeBelow, openBelow}
 use Rattle.state.specs.declared.State.{State}
+use Rattle.state.proofs.Guards.{opens-below}
 use Rattle.state.proofs.Marks.{used-marked, used-unmarked, length-marked, length-unmarked, used-below}
 use Rattle.run.proofs.Logs.{Log, upd, putL, takeL, noted, follow}
 use Rattle.run.proofs.Balance.{upd-same, upd-other, upd-here}
-use Rattle.run.proofs.Micro.{Hashed, Status, faulty, bad, good, status-map, take-hashed, put-hashed, take-status, put-status}
-use Rattle.run.proofs.Walk.{openL, Right, Told, check-tells, open-above, open-held, open-balance, open-hashed, open-same}
+use Rattle.run.proofs.Micro.{Status, faulty, bad, good, status-map, take-status, put-status}
+use Rattle.run.proofs.Walk.{openL, Right, Differs, check-tells, open-above, open-held, open-balance}
 use Rattle.state.proofs.Ready.{Ready, add-ready, remove-ready}
 
 abbrev pub there : Option Entry → Bool
@@ -37,8 +38,7 @@ abbrev pub Vals : Log → (ℕ → List ℕ → Type 0) → Type 0
 Vals l Set = (a : ℕ) (e : Entry) → l .held a ≡ some e → Set a (e .value)
 
 -- all that is kept of a run, as long as its state is not closed: C is a collision already shown, and R is what is known of the loads
-pub record All (tag : List ℕ → Entry → List ℕ) (s : State) (l : Log) (Set : ℕ → List ℕ → Type 0) (C R : Type 0) : Type 0 where
-  pub hashed : Hashed tag s l
+pub record All (s : State) (l : Log) (Set : ℕ → List ℕ → Type 0) (C R : Type 0) : Type 0 where
   pub fit : Fit s l
   pub status : C ⊎ Status s l (Vals l Set × R)
 
@@ -53,9 +53,9 @@ pub then : {A B C : Type 0} → (B → C) → A ⊎ B → A ⊎ C
 then f (inl a) = inl a
 then f (inr b) = inr (f b)
 
-pub all-map : {tag : List ℕ → Entry → List ℕ} {s : State} {l : Log} {Set Set′ : ℕ → List ℕ → Type 0} {C R D S : Type 0}
-    → ((a : ℕ) (v : List ℕ) → Set a v → Set′ a v) → (C → D) → (R → S) → All tag s l Set C R → All tag s l Set′ D S
-all-map {s = s} {l = l} {Set = Set} {Set′ = Set′} {C = C} {R = R} {D = D} {S = S} f g k x = record { hashed = x .hashed; fit = x .fit; status = go (x .status) }
+pub all-map : {s : State} {l : Log} {Set Set′ : ℕ → List ℕ → Type 0} {C R D S : Type 0}
+    → ((a : ℕ) (v : List ℕ) → Set a v → Set′ a v) → (C → D) → (R → S) → All s l Set C R → All s l Set′ D S
+all-map {s = s} {l = l} {Set = Set} {Set′ = Set′} {C = C} {R = R} {D = D} {S = S} f g k x = record { fit = x .fit; status = go (x .status) }
   where
     go : C ⊎ Status s l (Vals l Set × R) → D ⊎ Status s l (Vals l Set′ × S)
     go (inl c) = inl (g c)
@@ -82,11 +82,7 @@ vals-take g Set a k b e q = go (eqb b a) refl
     go true p = absurd (false≢true (ap there (sym (upd-same g a none b p) ∙ q)))
     go false p = k b e (sym (upd-other g a none b p) ∙ q)
 
--- other marks are nothing to the hashes and the status
-marks-hashed : (tag : List ℕ → Entry → List ℕ) (s : State) (l : Log) (ws : List ℕ) → Hashed tag s l → Hashed tag (withMarks s ws) l
-unfolding withMarks
-marks-hashed tag s l ws h = record { put = h .put; take = h .take }
-
+-- other marks are nothing to the status
 marks-status : {Q : Type 0} (s : State) (l : Log) (ws : List ℕ) → Status s l Q → Status (withMarks s ws) l Q
 unfolding withMarks
 marks-status s l ws (faulty e) = faulty e
@@ -102,7 +98,7 @@ opened-held w s m sixteen a = go (used (s .marks) a) refl (ltb a addresses) refl
     go true e false h = open-held w s m addresses a (used-below (s .marks) a sixteen e)
     go false e false h = open-above w s m addresses a (ltb-false a addresses h) ∙ rw e
 
-module _ (w : ℕ) (tag : List ℕ → Entry → List ℕ) (s : State) (m : List ℕ) (l : Log) (Set : ℕ → List ℕ → Type 0) (C R : Type 0) (x : All tag s l Set C R) where
+module _ (w : ℕ) (tag : List ℕ → Entry → List ℕ) (s : State) (m : List ℕ) (l : Log) (Set : ℕ → List ℕ → Type 0) (C R : Type 0) (x : All s l Set C R) where
   -- ---- add
 
   fit-add : (a : ℕ) (v : List ℕ) → Ready w s m a false → Fit (withMarks (putEntry tag s (next s a v)) (marked (s .marks) a)) (putL l (next s a v))
@@ -114,13 +110,12 @@ module _ (w : ℕ) (tag : List ℕ → Entry → List ℕ) (s : State) (m : List
       go b false e = rw (upd-other (l .held) a (some (next s a v)) b e, e) (x .fit .marked b)
 
   pub add-all : (Set′ : ℕ → List ℕ → Type 0) (a : ℕ) (v : List ℕ) → Set′ a v → ((b : ℕ) (u : List ℕ) → eqb b a ≡ false → Set b u → Set′ b u)
-      → first (addRows w s m a v) ≡ 0 → All tag (added w tag s m a v .seen .state) (follow l (added w tag s m a v .events)) Set′ C R
-  unfolding added follow noted next putL
+      → first (addRows w s m a v) ≡ 0 → All (added w tag s m a v .seen .state) (follow l (added w tag s m a v .events)) Set′ C R
+  unfolding added noted next putL
   add-all Set′ a v h k e =
       let p = add-ready w s m a v e .0 in
       let d = next s a v in
       record {
-        hashed = marks-hashed tag (putEntry tag s d) (putL l d) (marked (s .marks) a) (put-hashed tag s l d (x .hashed));
         fit = fit-add a v p;
         status =
             then
@@ -152,13 +147,12 @@ module _ (w : ℕ) (tag : List ℕ → Entry → List ℕ) (s : State) (m : List
         go b false e = rw (upd-other (upd (l .held) a none) a (some d) b e, upd-other (l .held) a none b e) (x .fit .marked b)
 
     pub exchange-all : (Set′ : ℕ → List ℕ → Type 0) (S : Type 0) → (Set a (valueAt w m a) → Set′ a v) → ((b : ℕ) (u : List ℕ) → eqb b a ≡ false → Set b u → Set′ b u)
-        → (Set a (valueAt w m a) → R → S) → Ready w s m a true → All tag exchanged exchangedL Set′ C S
+        → (Set a (valueAt w m a) → R → S) → Ready w s m a true → All exchanged exchangedL Set′ C S
     unfolding takeL putL next entryAt
     exchange-all Set′ S h k g p =
         let t = takeEntry tag s (entryAt w m a) in
         let d = next t a v in
         record {
-          hashed = put-hashed tag t (takeL l (entryAt w m a)) d (take-hashed tag s l (entryAt w m a) (x .hashed));
           fit = fit-exchange (p .mark);
           status =
               then
@@ -170,13 +164,12 @@ module _ (w : ℕ) (tag : List ℕ → Entry → List ℕ) (s : State) (m : List
 
   -- ---- remove
 
-  pub remove-all : (a : ℕ) → first (removeRows w s m a) ≡ 0 → All tag (removed w tag s m a .seen .state) (follow l (removed w tag s m a .events)) Set C R
-  unfolding removed follow noted takeL entryAt withMarks takeEntry
+  pub remove-all : (a : ℕ) → first (removeRows w s m a) ≡ 0 → All (removed w tag s m a .seen .state) (follow l (removed w tag s m a .events)) Set C R
+  unfolding removed noted takeL entryAt withMarks takeEntry
   remove-all a e =
       let p = remove-ready w s m a e in
       let d = entryAt w m a in
       record {
-        hashed = marks-hashed tag (takeEntry tag s d) (takeL l d) (unmarked (s .marks) a) (take-hashed tag s l d (x .hashed));
         fit = record { marked = λ b. used-unmarked (s .marks) a (x .fit .sixteen) (p .below) b ∙ go b (eqb b a) refl; sixteen = length-unmarked (s .marks) a ∙ x .fit .sixteen };
         status = then (λ t. status-map (λ y. (vals-take (l .held) Set a (y .0 .0), y .0 .1)) (marks-status (takeEntry tag s d) (takeL l d) (unmarked (s .marks) a) (take-status tag s l d t))) (x .status);
       }
@@ -202,11 +195,10 @@ module _ (w : ℕ) (tag : List ℕ → Entry → List ℕ) (s : State) (m : List
           rw (← y) (v a (entryAt w m a) (right a (used-below (s .marks) a (x .fit .sixteen) u) u))
       go false u = let z : none ≡ some e = sym (opened-held w s m (x .fit .sixteen) a ∙ rw u) ∙ h in absurd (false≢true (ap there z))
 
-  pub accepted-all : agrees (takeBelow w tag s m addresses) ≡ true → All tag (openBelow w tag s m addresses) (openL w s m addresses) Set (Told w s m tag l ⊎ C) R
+  pub accepted-all : takeBelow w tag s m addresses .fault ≡ false → All (openBelow w tag s m addresses) (openL w s m addresses) Set (Differs w s m l ⊎ C) R
   accepted-all e =
-      let o = open-same w s m tag addresses in
+      let o = opens-below w tag s m addresses in
       record {
-        hashed = open-hashed w s m tag addresses;
         fit =
             record {
               marked = λ a. ap (λ (ws : List ℕ). used ws a) (o .marks) ∙ there-choose (used (s .marks) a) (opening w m a) ∙ ap there (sym (opened-held w s m (x .fit .sixteen) a));
@@ -215,10 +207,10 @@ module _ (w : ℕ) (tag : List ℕ → Entry → List ℕ) (s : State) (m : List
         status = go (x .status);
       }
     where
-      told : Told w s m tag l ⊎ ((Vals l Set × R) × Right w s m l addresses) → (Told w s m tag l ⊎ C) ⊎ Status (openBelow w tag s m addresses) (openL w s m addresses) (Vals (openL w s m addresses) Set × R)
+      told : Differs w s m l ⊎ ((Vals l Set × R) × Right w s m l addresses) → (Differs w s m l ⊎ C) ⊎ Status (openBelow w tag s m addresses) (openL w s m addresses) (Vals (openL w s m addresses) Set × R)
       told (inl t) = inl (inl t)
       told (inr y) = inr (good (open-balance w s m addresses) (vals-open (y .0 .0) (y .1), y .0 .1))
 
-      go : C ⊎ Status s l (Vals l Set × R) → (Told w s m tag l ⊎ C) ⊎ Status (openBelow w tag s m addresses) (openL w s m addresses) (Vals (openL w s m addresses) Set × R)
+      go : C ⊎ Status s l (Vals l Set × R) → (Differs w s m l ⊎ C) ⊎ Status (openBelow w tag s m addresses) (openL w s m addresses) (Vals (openL w s m addresses) Set × R)
       go (inl c) = inl (inr c)
-      go (inr t) = told (check-tells w s m tag l (x .hashed) t e)
+      go (inr t) = told (check-tells w s m tag l t e)

@@ -1,7 +1,7 @@
 -- A run with one call more: its state, its events and its latest calls, by the last place. Assumes nothing.
 use mathlib.Core.Path.{_≡_, refl, sym, ap, _∙_, subst}
 use mathlib.Core.Bool.{Bool, true, false}
-use mathlib.Core.List.{List, [], _∷_, _++_, append-nil, append-assoc}
+use mathlib.Core.List.{List, [], _∷_, _++_, append-nil, append-assoc, foldl-append}
 use mathlib.Core.Logic.{_⊎_, inl, inr}
 use Prim.Native.Nat.{ℕ}
 use lib.Dec.{eqb}
@@ -16,7 +16,7 @@ use Rattle.state.proofs.Starts.{start-done, start-refused}
 use Rattle.run.specs.Calls.{Call, add, load, store, remove, check, look, count, lowest, Lent, step, after, events}
 use Rattle.run.specs.Demand3.{Latest, Sets, stateAfter, result, eventsOf}
 use Rattle.run.proofs.Lists.{no-place, last-place, place-stays}
-use Rattle.run.proofs.Logs.{Log, noLog, follow, follow-append}
+use Rattle.run.proofs.Logs.{Log, noLog, noted, follow}
 
 -- what a call's arguments say: whether it sets a value, whether it loads one, and the address and the value or buffer that it is given
 pub record Kind : Type 0 where
@@ -85,12 +85,15 @@ module _ (w : ℕ) (tag : List ℕ → Entry → List ℕ) where
       events-last =
           events-append (startOf key .state) run (x ∷ []) ∙ ap (λ (es : List Event). eventsOf w tag key run ++ es) (append-nil (result w tag key run x .events))
 
-      pub log-last : logOf (run ++ (x ∷ [])) ≡ follow (logOf run) (result w tag key run x .events)
-      log-last = ap (follow noLog) events-last ∙ follow-append noLog (eventsOf w tag key run) (result w tag key run x .events)
+      -- what holds of what the call gives, and of all that was done with it, holds after it
+      pub by-events : (P : State → List Event → Type 0) → P (result w tag key run x .seen .state) (eventsOf w tag key run ++ result w tag key run x .events)
+          → P (stateAfter w tag key (run ++ (x ∷ []))) (eventsOf w tag key (run ++ (x ∷ [])))
+      by-events P h = subst (λ (s : State). P s (eventsOf w tag key (run ++ (x ∷ [])))) (sym state-last) (subst (P (result w tag key run x .seen .state)) (sym events-last) h)
 
-      -- what holds of what the call gives holds after it
+      -- and so of what is written down
       pub by-step : (P : State → Log → Type 0) → P (result w tag key run x .seen .state) (follow (logOf run) (result w tag key run x .events)) → P (stateAfter w tag key (run ++ (x ∷ []))) (logOf (run ++ (x ∷ [])))
-      by-step P h = subst (λ (s : State). P s (logOf (run ++ (x ∷ [])))) (sym state-last) (subst (P (result w tag key run x .seen .state)) (sym log-last) h)
+      by-step P h =
+          by-events (λ s es. P s (follow noLog es)) (subst (P (result w tag key run x .seen .state)) (sym (foldl-append noted noLog (eventsOf w tag key run) (result w tag key run x .events))) h)
 
 -- ---- the latest call
 

@@ -12,7 +12,6 @@ use borrow.Author.Tests.{eqb-false}
 use Rattle.refusal.specs.Refusal.{first}
 use Rattle.state.specs.Sizes.{addresses}
 use Rattle.state.specs.Cells.{Entry, valueAt}
-use Rattle.state.specs.Multiset.{hash}
 use Rattle.state.specs.Counts.{times}
 use Rattle.state.specs.Start.{fresh, none, startOf}
 use Rattle.state.specs.Step.{Event, Step, shut}
@@ -21,18 +20,19 @@ use Rattle.state.specs.Check.{agrees, takes, puts, takeBelow, openBelow, accept
 use Rattle.state.specs.declared.State.{State}
 use Rattle.state.specs.declared.Verdict.the-variants.{Accept, Reject, Nothing}
 use Rattle.state.proofs.Marks.{fresh-unused}
-use Rattle.state.proofs.Multiset.{hash-none}
+use Rattle.state.proofs.Guards.{agrees-tells}
 use Rattle.run.specs.Calls.{Call, add, load, store, remove, check, look, count, lowest, Lent, lent, moves, step, after, events}
 use Rattle.run.specs.Demand3.{Differ, putIn, takenIn, Since, Sets, stateAfter, result, eventsOf, Done, Accepts, SetAt, LastSet, EachLoad, Collision, LastAccepts}
 use Rattle.run.proofs.Lists.{by-last, no-place, last-place, place-stays}
 use Rattle.run.proofs.Logs.{Log, noLog, noted, follow, since-now}
 use Rattle.run.proofs.Micro.{Status, good}
-use Rattle.run.proofs.Walk.{by-choose, takenL, opened-log, Right, Told, check-tells}
+use Rattle.run.proofs.Walk.{by-choose, takenL, opened-log, Right, Differs, check-tells}
 use Rattle.state.proofs.Ready.{use-ready}
 use Rattle.run.proofs.Steps.{rowsOf, whenDone, by-call, step-done, done-number, number-done}
 use Rattle.run.proofs.Runs.{kind, sets-told, by-start, logOf, by-step, latest-here, latest-keeps}
 use Rattle.run.proofs.Moves.{there, Vals, All, all-map, add-all, exchange-all, remove-all, accepted-all}
-use Rattle.run.proofs.Always.{not-closed, accepted-key}
+use Rattle.run.proofs.Always.{not-closed}
+use Rattle.run.proofs.Exact.{check-exact}
 use Rattle.run.proofs.Alike.{period-puts, period-takes, alike-check}
 
 -- a check that accepts is not refused, and its hashes agree
@@ -89,7 +89,7 @@ module _ (w : ℕ) (tag : List ℕ → Entry → List ℕ) (key : List ℕ) wher
         }
 
   -- an accepted check whose period's puts and takes differ, with equal hashes
-  collides : (run : List Lent) (m : List ℕ) → Accepts w tag key run m → Told w (stateAfter w tag key run) m tag (logOf w tag key run) → Collision w tag key (run ++ (lent check m ∷ []))
+  collides : (run : List Lent) (m : List ℕ) → Accepts w tag key run m → Differs w (stateAfter w tag key run) m (logOf w tag key run) → Collision w tag key (run ++ (lent check m ∷ []))
   collides run m a t =
       record {
         before = run;
@@ -100,10 +100,8 @@ module _ (w : ℕ) (tag : List ℕ → Entry → List ℕ) (key : List ℕ) wher
         period = now .0;
         since = now .1;
         alike = alike-check w tag key run m (now .0) (now .1);
-        differ = subst (λ (p : List Entry). Differ p (takenIn (now .0))) same-puts (subst (Differ (l .puts)) same-takes (t .0));
-        equal =
-            subst (λ (k : List ℕ). hash (tag k) (putIn (now .0)) ≡ hash (tag k) (takenIn (now .0))) (accepted-key w tag key run m a)
-            (ap (hash (tag (s .key))) (sym same-puts) ∙ t .1 ∙ ap (hash (tag (s .key))) same-takes);
+        differ = subst (λ (p : List Entry). Differ p (takenIn (now .0))) same-puts (subst (Differ (l .puts)) same-takes t);
+        equal = check-exact w tag key run m (done-number w tag s m check (accepts-agrees w tag s m a .0)) (now .0) (now .1) .0 a .0;
       }
     where
       s : State
@@ -124,7 +122,7 @@ module _ (w : ℕ) (tag : List ℕ → Entry → List ℕ) (key : List ℕ) wher
   -- ---- all that is kept, call by call
 
   abbrev Whole : List Lent → State → Log → Type 0
-  Whole run s l = All tag s l (LastSet w tag key run) (Collision w tag key run) (EachLoad w tag key run)
+  Whole run s l = All s l (LastSet w tag key run) (Collision w tag key run) (EachLoad w tag key run)
 
   abbrev pub AllAt : List Lent → State → Log → Type 0
   AllAt run s l = s .closed ≡ false → Whole run s l
@@ -142,7 +140,7 @@ module _ (w : ℕ) (tag : List ℕ → Entry → List ℕ) (key : List ℕ) wher
     loads-not c n = loads-more run (lent c m) (λ a o k e d. absurd (true≢false (ap (λ (y : Lent). kind (y .call) .loads) e ∙ n)))
 
     quiet-all : (c : Call) → kind c .sets ≡ false → kind c .loads ≡ false → (t : State) (k : Log) (D : Type 0) → (D → Collision w tag key (run ++ (lent c m ∷ [])))
-        → All tag t k (LastSet w tag key run) D (EachLoad w tag key run) → Whole (run ++ (lent c m ∷ [])) t k
+        → All t k (LastSet w tag key run) D (EachLoad w tag key run) → Whole (run ++ (lent c m ∷ [])) t k
     quiet-all c n k t l D f = all-map (sets-not c n) f (loads-not c k)
 
     module _ (h : AllAt run (stateAfter w tag key run) (logOf w tag key run)) where
@@ -164,7 +162,7 @@ module _ (w : ℕ) (tag : List ℕ → Entry → List ℕ) (key : List ℕ) wher
 
       store-more : (a : ℕ) (v : List ℕ) → first (rowsOf w s m (store a v)) ≡ 0
           → AllAt (run ++ (lent (store a v) m ∷ [])) (stored w tag s m a v .seen .state) (follow l (stored w tag s m a v .events))
-      unfolding stored follow noted
+      unfolding stored noted
       store-more a v e o =
           all-map (λ b u k. k) (collision-stays run (lent (store a v) m)) (loads-not (store a v) refl)
           (exchange-all w tag s m l _ _ _ (x (store a v) refl e) a v (LastSet w tag key (run ++ (lent (store a v) m ∷ []))) (EachLoad w tag key run)
@@ -172,7 +170,7 @@ module _ (w : ℕ) (tag : List ℕ → Entry → List ℕ) (key : List ℕ) wher
 
       load-more : (a : ℕ) (b : List ℕ) → first (rowsOf w s m (load a b)) ≡ 0
           → AllAt (run ++ (lent (load a b) m ∷ [])) (loaded w tag s m a .seen .state) (follow l (loaded w tag s m a .events))
-      unfolding loaded follow noted
+      unfolding loaded noted
       load-more a b e o =
           all-map (λ b u k. k) (collision-stays run (lent (load a b) m)) (λ r. r)
           (exchange-all w tag s m l _ _ _ (x (load a b) refl e) a (valueAt w m a) (LastSet w tag key (run ++ (lent (load a b) m ∷ []))) (EachLoad w tag key (run ++ (lent (load a b) m ∷ [])))
@@ -189,17 +187,16 @@ module _ (w : ℕ) (tag : List ℕ → Entry → List ℕ) (key : List ℕ) wher
       unfolding acceptance rejection shut
       check-more e =
           by-choose (λ (r : Step). AllAt (run ++ (lent check m ∷ [])) (r .seen .state) (follow l (r .events))) (agrees (takeBelow w tag s m addresses))
-          (λ k o. subst (Whole (run ++ (lent check m ∷ [])) (openBelow w tag s m addresses)) (sym (opened-log w s m l)) (quiet-all check refl refl _ _ _ (either k) (accepted-all w tag s m l _ _ _ (x check refl e) k)))
+          (λ k o. subst (Whole (run ++ (lent check m ∷ [])) (openBelow w tag s m addresses)) (sym (opened-log w s m l)) (quiet-all check refl refl _ _ _ (either k) (accepted-all w tag s m l _ _ _ (x check refl e) (agrees-tells (takeBelow w tag s m addresses) k .1))))
           (λ k o. absurd (true≢false o))
         where
-          either : agrees (takeBelow w tag s m addresses) ≡ true → Told w s m tag l ⊎ Collision w tag key run → Collision w tag key (run ++ (lent check m ∷ []))
+          either : agrees (takeBelow w tag s m addresses) ≡ true → Differs w s m l ⊎ Collision w tag key run → Collision w tag key (run ++ (lent check m ∷ []))
           either k (inl t) =
               let q : result w tag key run (lent check m) ≡ acceptance w tag s m = step-done w tag s m check e ∙ rw k in
               collides run m (ap (λ (r : Step). r .seen .verdict) q) t
           either k (inr c) = collision-stays run (lent check m) c
 
       done-all : (c : Call) → first (rowsOf w s m c) ≡ 0 → AllAt (run ++ (lent c m ∷ [])) (whenDone w tag s m c .seen .state) (follow l (whenDone w tag s m c .events))
-      unfolding follow
       done-all (add a v) e = add-more a v e
       done-all (load a b) e = load-more a b e
       done-all (store a v) e = store-more a v e
@@ -219,14 +216,13 @@ module _ (w : ℕ) (tag : List ℕ → Entry → List ℕ) (key : List ℕ) wher
       by-start key (λ (s : State). AllAt [] s noLog)
       (λ e o.
       record {
-        hashed = record { put = sym (hash-none (tag key)); take = sym (hash-none (tag key)) };
         fit = record { marked = fresh-unused; sixteen = refl };
         status = inr (good (λ c. refl) (λ a d h. absurd (false≢true (ap there h)), λ before later a b m h. absurd (no-place before (lent (load a b) m) later h)));
       })
       (λ e o. absurd (true≢false o))
 
   pub all : (run : List Lent) → AllAt run (stateAfter w tag key run) (logOf w tag key run)
-  unfolding after events follow
+  unfolding after events
   all = by-last (λ (run : List Lent). AllAt run (stateAfter w tag key run) (logOf w tag key run)) first-all more
     where
       more : (run : List Lent) (x : Lent) → AllAt run (stateAfter w tag key run) (logOf w tag key run) → AllAt (run ++ (x ∷ [])) (stateAfter w tag key (run ++ (x ∷ []))) (logOf w tag key (run ++ (x ∷ [])))
@@ -249,7 +245,7 @@ module _ (w : ℕ) (tag : List ℕ → Entry → List ℕ) (key : List ℕ) wher
       p : (first (rowsOf w s m check) ≡ 0) × (agrees (takeBelow w tag s m addresses) ≡ true)
       p = accepts-agrees w tag s m a
 
-      told : Told w s m tag l ⊎ ((Vals l (LastSet w tag key run) × EachLoad w tag key run) × Right w s m l addresses) → EachLoad w tag key (run ++ (lent check m ∷ [])) ⊎ Collision w tag key (run ++ (lent check m ∷ []))
+      told : Differs w s m l ⊎ ((Vals l (LastSet w tag key run) × EachLoad w tag key run) × Right w s m l addresses) → EachLoad w tag key (run ++ (lent check m ∷ [])) ⊎ Collision w tag key (run ++ (lent check m ∷ []))
       told (inl t) = inr (collides run m a t)
       told (inr y) = inl (loads-not run m check refl (y .0 .1))
 
@@ -258,7 +254,7 @@ module _ (w : ℕ) (tag : List ℕ → Entry → List ℕ) (key : List ℕ) wher
         where
           stands : Collision w tag key run ⊎ Status s l (Vals l (LastSet w tag key run) × EachLoad w tag key run) → EachLoad w tag key (run ++ (lent check m ∷ [])) ⊎ Collision w tag key (run ++ (lent check m ∷ []))
           stands (inl c) = inr (collision-stays run (lent check m) c)
-          stands (inr t) = told (check-tells w s m tag l (h .hashed) t (p .1))
+          stands (inr t) = told (check-tells w s m tag l t (agrees-tells (takeBelow w tag s m addresses) (p .1) .1))
 
   pub sound : (run : List Lent) → LastAccepts w tag key run → EachLoad w tag key run ⊎ Collision w tag key run
   sound run (before, m, place, a) = subst (λ (r : List Lent). EachLoad w tag key r ⊎ Collision w tag key r) (sym place) (sound-at before m a)

@@ -1,5 +1,5 @@
--- What the events of a run have to do with what its caller sees: the state's hashes are those of the entries put and taken, and the accepted events are the
--- checks that accept, with their takes before them. Assumes nothing.
+-- What the events of a run have to do with what its caller sees: the accepted events are the checks that accept, with their takes
+-- before them. Assumes nothing.
 use mathlib.Core.Path.{_≡_, refl, sym, ap, _∙_}
 use mathlib.Core.Bool.{false, true≢false}
 use mathlib.Core.List.{List, [], _∷_, _++_, append-nil, append-assoc, tail-eq-of-cons-eq}
@@ -7,7 +7,6 @@ use mathlib.Core.Logic.{_⊎_, inl, inr}
 use Prim.Native.Nat.{ℕ}
 use Rattle.state.specs.Sizes.{addresses}
 use Rattle.state.specs.Cells.{Entry, entryAt}
-use Rattle.state.specs.Multiset.{hash}
 use Rattle.state.specs.Start.{startOf}
 use Rattle.state.specs.Step.{Event, took, put, accepted, Step}
 use Rattle.state.specs.Moves.{added, loaded, stored, removed}
@@ -15,13 +14,13 @@ use Rattle.state.specs.Check.{opening, agrees, takes, puts, takeBelow, acceptan
 use Rattle.state.specs.declared.State.{State}
 use Rattle.state.specs.declared.Verdict.the-variants.{Accept}
 use Rattle.run.specs.Calls.{Call, add, load, store, remove, check, look, count, lowest, Lent, lent, step, events}
-use Rattle.run.specs.Demand3.{putIn, takenIn, Since, stateAfter, result, eventsOf, Accepts}
+use Rattle.run.specs.Demand3.{stateAfter, result, eventsOf, Accepts}
 use Rattle.run.proofs.Lists.{by-last, place-in, no-place, place-stays, Each, each-none, each-more}
-use Rattle.run.proofs.Logs.{isAccepted, since-puts, since-takes}
+use Rattle.run.proofs.Logs.{isAccepted}
 use Rattle.run.proofs.Walk.{by-choose, each-used}
 use Rattle.run.proofs.Steps.{whenDone, by-call, step-done}
 use Rattle.run.proofs.Runs.{events-append, events-last}
-use Rattle.run.proofs.Sound.{accepts-agrees, all}
+use Rattle.run.proofs.Sound.{accepts-agrees}
 
 -- ---- accepted events
 
@@ -132,12 +131,3 @@ module _ (w : ℕ) (tag : List ℕ → Entry → List ℕ) (key : List ℕ) wher
 
       regroup : (a t p r : List Event) → a ++ ((t ++ (accepted ∷ p)) ++ r) ≡ (a ++ t) ++ (accepted ∷ (p ++ r))
       regroup a t p r = simp append-assoc
-
-  -- ---- the hashes of the state are those of the period
-
-  pub hashes-told : (run : List Lent) (period : List Event) → Since (eventsOf w tag key run) period → stateAfter w tag key run .closed ≡ false
-      → let s = stateAfter w tag key run in (s .put ≡ hash (tag (s .key)) (putIn period)) × (s .take ≡ hash (tag (s .key)) (takenIn period))
-  hashes-told run period p o =
-      let s = stateAfter w tag key run in
-      let h = all w tag key run o .hashed in
-      (h .put ∙ ap (hash (tag (s .key))) (since-puts (eventsOf w tag key run) period p), h .take ∙ ap (hash (tag (s .key))) (since-takes (eventsOf w tag key run) period p))

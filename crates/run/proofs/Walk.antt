@@ -1,8 +1,8 @@
 -- A check's takes and the puts that open the next period, address by address: each is a take or a put of its own address, so the rest is as it was.
 -- Assumes nothing.
 use mathlib.Core.Path.{_≡_, refl, sym, ap, _∙_, subst}
-use mathlib.Core.Bool.{Bool, true, false, not, false≢true}
-use mathlib.Core.List.{List, [], _∷_, _++_}
+use mathlib.Core.Bool.{Bool, true, false, false≢true}
+use mathlib.Core.List.{List, [], _∷_, _++_, foldl-append}
 use mathlib.Core.Option.{Option, none, some}
 use mathlib.Core.Logic.{_⊎_, inl, inr, _≢_}
 use Prim.Native.Nat.{ℕ, zero, suc, _+_, _≤_, _<_}
@@ -13,18 +13,17 @@ use Rattle.refusal.specs.Refusal.{choose}
 use Rattle.state.specs.Sizes.{addresses}
 use Rattle.state.specs.Marks.{used}
 use Rattle.state.specs.Cells.{Entry, entryAt}
-use Rattle.state.specs.Multiset.{hash, sameHash}
 use Rattle.state.specs.Counts.{sameEntry, bit, times}
-use Rattle.state.specs.Step.{Event, took, put, accepted, takeEntry, putEntry}
-use Rattle.state.specs.Check.{inUse, opened, opening, agrees, takes, puts, takeBelow, openBelow}
+use Rattle.state.specs.Step.{Event, took, put, accepted}
+use Rattle.state.specs.Check.{inUse, opening, takes, puts, takeBelow, openBelow}
 use Rattle.state.specs.declared.State.{State}
-use Rattle.state.proofs.Marks.{both}
-use Rattle.state.proofs.Multiset.{sameEntry-true, sameHash-true, times-last, hash-none}
+use Rattle.state.proofs.Guards.{fold-used, opens-below}
+use Rattle.state.proofs.Multiset.{sameEntry-true, times-last}
 use Rattle.run.specs.Demand3.{Differ}
 use Rattle.run.proofs.Lists.{Each, each-none, each-more, each-both}
-use Rattle.run.proofs.Logs.{Log, upd, putL, takeL, noLog, noted, follow, follow-append}
+use Rattle.run.proofs.Logs.{Log, upd, putL, takeL, noLog, noted, follow}
 use Rattle.run.proofs.Balance.{upd-same, upd-other, heldTimes, Balance, put-balance}
-use Rattle.run.proofs.Micro.{Stamps, Hashed, Status, faulty, bad, good, status-map, take-hashed, put-hashed, take-status}
+use Rattle.run.proofs.Micro.{Stamps, Hashed, Status, faulty, bad, good, status-map, take-hashed, take-status}
 
 pub by-choose : {A : Type 0} (P : A → Type 0) (b : Bool) {x y : A} → (b ≡ true → P x) → (b ≡ false → P y) → P (choose b x y)
 by-choose P true p q = p refl
@@ -45,15 +44,6 @@ below-suc a n h = go (eqb a n) refl
 unfoldable pub walk : (ℕ → Event) → List ℕ → Log → ℕ → Log
 walk x ws l zero = l
 walk x ws l (suc n) = choose (used ws n) (noted (walk x ws l n) (x n)) (walk x ws l n)
-
-follow-walk : (x : ℕ → Event) (ws : List ℕ) (l : Log) (n : ℕ) → follow l (inUse x ws n) ≡ walk x ws l n
-unfolding walk inUse follow
-follow-walk x ws l zero = refl
-follow-walk x ws l (suc n) = follow-append l (inUse x ws n) (choose (used ws n) (x n ∷ []) []) ∙ go (used ws n) (follow-walk x ws l n)
-  where
-    go : (b : Bool) → follow l (inUse x ws n) ≡ walk x ws l n → follow (follow l (inUse x ws n)) (choose b (x n ∷ []) []) ≡ choose b (noted (walk x ws l n) (x n)) (walk x ws l n)
-    go true e = ap (λ (k : Log). noted k (x n)) e
-    go false e = e
 
 pub each-used : (P : Event → Type 0) (x : ℕ → Event) (ws : List ℕ) (n : ℕ) → ((a : ℕ) → a < n → P (x a)) → Each P (inUse x ws n)
 unfolding inUse
@@ -78,12 +68,12 @@ module _ (w : ℕ) (s : State) (m : List ℕ) where
 
   -- what a check's events leave written down
   pub taken-log : (l : Log) → follow l (takes w s m) ≡ takenL l addresses
-  unfolding takes
-  taken-log l = follow-walk (λ a. took (entryAt w m a)) (s .marks) l addresses
+  unfolding takes walk
+  taken-log l = sym (fold-used noted (λ a. took (entryAt w m a)) (s .marks) (takenL l) (λ n. refl) addresses)
 
   pub opened-log : (l : Log) → follow l (takes w s m ++ (accepted ∷ puts w s m)) ≡ openL addresses
-  unfolding puts follow noted
-  opened-log l = follow-append l (takes w s m) (accepted ∷ puts w s m) ∙ follow-walk (λ a. put (opening w m a)) (s .marks) noLog addresses
+  unfolding puts noted walk
+  opened-log l = foldl-append noted l (takes w s m) (accepted ∷ puts w s m) ∙ sym (fold-used noted (λ a. put (opening w m a)) (s .marks) openL (λ n. refl) addresses)
 
   -- ---- the takes
 
@@ -129,6 +119,10 @@ module _ (w : ℕ) (s : State) (m : List ℕ) where
         go : (a ≡ n) ⊎ (a < n) → l .held a ≡ some (entryAt w m a)
         go (inl e) = subst (λ (x : ℕ). used (s .marks) x ≡ true → l .held x ≡ some (entryAt w m x)) (sym e) g u
         go (inr k) = f a k u
+
+    -- the puts and the takes of the period that a check ends are different multisets
+    abbrev pub Differs : Type 0
+    Differs = Differ (l .puts) (takenL l addresses .takes)
 
   -- ---- the puts that open a period
 
@@ -198,11 +192,6 @@ module _ (w : ℕ) (s : State) (m : List ℕ) where
   module _ (tag : List ℕ → Entry → List ℕ) where
     -- ---- the state after the takes, and after the puts
 
-    pub taken-key : (n : ℕ) → takeBelow w tag s m n .key ≡ s .key
-    unfolding takeBelow takeEntry
-    taken-key zero = refl
-    taken-key (suc n) = by-choose (λ (x : State). x .key ≡ s .key) (used (s .marks) n) (λ e. taken-key n) (λ e. taken-key n)
-
     pub taken-hashed : (l : Log) → Hashed tag s l → (n : ℕ) → Hashed tag (takeBelow w tag s m n) (takenL l n)
     unfolding takeBelow walk noted
     taken-hashed l h zero = h
@@ -217,59 +206,17 @@ module _ (w : ℕ) (s : State) (m : List ℕ) where
         (λ e. status-map (λ t. (t .0 .0, right-suc l n (t .0 .1) (λ u. sym (taken-above l n n (omega arith)) ∙ t .1))) (take-status tag (takeBelow w tag s m n) (takenL l n) (entryAt w m n) ih))
         (λ e. status-map (λ t. (t .0, right-suc l n (t .1) (λ u. absurd (false≢true (sym e ∙ u))))) ih)
 
-    -- different multisets with equal hashes in the period that a check ends
-    abbrev pub Told : Log → Type 0
-    Told l =
-        Differ (l .puts) (takenL l addresses .takes) × (hash (tag (s .key)) (l .puts) ≡ hash (tag (s .key)) (takenL l addresses .takes))
-
-    -- what an accepted check tells of its period
-    pub check-tells : {Q : Type 0} (l : Log) → Hashed tag s l → Status s l Q → agrees (takeBelow w tag s m addresses) ≡ true → Told l ⊎ (Q × Right l addresses)
-    unfolding agrees
-    check-tells {Q} l h st e = go (taken-status l st addresses)
+    -- where no fault is marked after a check's takes, they differ from the puts, or every take of the period was right
+    pub check-tells : {Q : Type 0} (l : Log) → Status s l Q → takeBelow w tag s m addresses .fault ≡ false → Differs l ⊎ (Q × Right l addresses)
+    check-tells {Q} l st e = go (taken-status l st addresses)
       where
-        t : State
-        t = takeBelow w tag s m addresses
-
         k : Log
         k = takenL l addresses
 
-        ok : (sameHash (t .put) (t .take) ≡ true) × (not (t .fault) ≡ true)
-        ok = both (sameHash (t .put) (t .take)) (not (t .fault)) e
-
-        equal : hash (tag (s .key)) (l .puts) ≡ hash (tag (s .key)) (k .takes)
-        equal =
-            let d = taken-hashed l h addresses in
-            let f : hash (tag (t .key)) (k .puts) ≡ hash (tag (t .key)) (k .takes) = sym (d .put) ∙ sameHash-true (t .put) (t .take) (ok .0) ∙ d .take in
-            rw (taken-key addresses, taken-puts l addresses) at f
-
-        go : Status t k (Q × Right l addresses) → Told l ⊎ (Q × Right l addresses)
-        go (faulty x) = absurd (false≢true (sym (ap not x) ∙ ok .1))
-        go (bad c g x) = inl ((c, λ q. let f : times c (k .puts) ≡ times c (l .puts) = ap (times c) (taken-puts l addresses) in omega arith), equal)
+        go : Status (takeBelow w tag s m addresses) k (Q × Right l addresses) → Differs l ⊎ (Q × Right l addresses)
+        go (faulty x) = absurd (false≢true (sym e ∙ x))
+        go (bad c g x) = inl (c, λ q. let f : times c (k .puts) ≡ times c (l .puts) = ap (times c) (taken-puts l addresses) in omega arith)
         go (good b x) = inr x
 
-    pub open-hashed : (n : ℕ) → Hashed tag (openBelow w tag s m n) (openL n)
-    unfolding openBelow opened walk noted noLog
-    open-hashed zero = record { put = sym (hash-none (tag (s .key))); take = sym (hash-none (tag (s .key))) }
-    open-hashed (suc n) = by-choose₂ (Hashed tag) (used (s .marks) n) (λ e. put-hashed tag _ _ (opening w m n) (open-hashed n)) (λ e. open-hashed n)
-
-    pub open-clock : (n : ℕ) → openBelow w tag s m n .clock ≡ 1
-    unfolding openBelow opened putEntry opening
-    open-clock zero = refl
-    open-clock (suc n) = by-choose (λ (x : State). x .clock ≡ 1) (used (s .marks) n) (λ e. refl) (λ e. open-clock n)
-
     pub open-stamps : (n : ℕ) → Stamps (openBelow w tag s m n) (openL n)
-    open-stamps n = record { later = λ c h. open-later c (omega (arith, open-clock n)) n; alike = open-alike n }
-
-    -- all else is as it was
-    pub record Same (x : State) : Type 0 where
-      pub key : x .key ≡ s .key
-      pub fault : x .fault ≡ s .fault
-      pub closed : x .closed ≡ s .closed
-      pub marks : x .marks ≡ s .marks
-
-    pub open-same : (n : ℕ) → Same (openBelow w tag s m n)
-    unfolding openBelow opened putEntry
-    open-same zero = record { key = refl; fault = refl; closed = refl; marks = refl }
-    open-same (suc n) =
-        let ih = open-same n in
-        by-choose Same (used (s .marks) n) (λ e. record { key = ih .key; fault = ih .fault; closed = ih .closed; marks = ih .marks }) (λ e. ih)
+    open-stamps n = record { later = λ c h. open-later c (omega (arith, opens-below w tag s m n .clock)) n; alike = open-alike n }

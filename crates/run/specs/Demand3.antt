@@ -18,7 +18,6 @@ use mathlib.Core.Bool.{true}
 use mathlib.Core.List.{List, [], _∷_, _++_}
 use mathlib.Core.Logic.{_⊎_, _≢_}
 use Prim.Native.Nat.{ℕ, _≤_}
-use Rattle.state.specs.Sizes.{width}
 use Rattle.state.specs.Marks.{used}
 use Rattle.state.specs.Cells.{Entry, entryAt}
 use Rattle.state.specs.Multiset.{hash}
@@ -151,12 +150,9 @@ module _ (w : ℕ) (tag : List ℕ → Entry → List ℕ) (key : List ℕ) wher
   EachCheck run =
       (before later : List Lent) (m : List ℕ) → run ≡ before ++ (lent check m ∷ later) → Done before (lent check m) → Accepts before m
 
--- ---- demand 3, for a stamp of w bytes and any tag; and for today's width
+-- ---- demand 3, for a stamp of w bytes and any tag
 
 abbrev pub Demand3 : ℕ → (List ℕ → Entry → List ℕ) → Type 0
 Demand3 w tag =
     (key : List ℕ) (run : List Lent)
     → (LastAccepts w tag key run → EachLoad w tag key run ⊎ Collision w tag key run) × (Unaltered w tag key run → EachCheck w tag key run)
-
-abbrev pub Demand3Here : (List ℕ → Entry → List ℕ) → Type 0
-Demand3Here tag = Demand3 width tag

@@ -1,8 +1,8 @@
--- What each call does to the clock, to the fault mark and to the hashes, one short law for each sentence of the moves: by computation, or address by
--- address. Assumes nothing.
+-- What each call does to the state, every field of it, one short law for each sentence of the moves: by computation, or address by address.
+-- Assumes nothing.
 use mathlib.Core.Path.{_≡_, refl, sym, ap, _∙_}
 use mathlib.Core.Bool.{Bool, true, false, not, _||_, or-true}
-use mathlib.Core.List.{List, [], _∷_, _++_, append-assoc}
+use mathlib.Core.List.{List, [], _∷_, _++_, append-assoc, foldl, foldl-append}
 use mathlib.Core.Logic.{_⊎_, inl, inr}
 use Prim.Native.Nat.{ℕ, zero, suc, _+_, _<_}
 use native.Mathlib.Omega.{arith}
@@ -10,7 +10,7 @@ use lib.Dec.{eqb, ltb}
 use borrow.Author.Tests.{eqb-true, eqb-false, ltb-true, lt-ltb, not-true}
 use Rattle.refusal.specs.Refusal.{first, choose, done}
 use Rattle.state.specs.Sizes.{addresses}
-use Rattle.state.specs.Marks.{used, unmarked}
+use Rattle.state.specs.Marks.{used, marked, unmarked}
 use Rattle.state.specs.Cells.{Entry, entry, valueAt, stampAt, entryAt}
 use Rattle.state.specs.Multiset.{emptyHash, withTag, sameHash}
 use Rattle.state.specs.Step.{Event, took, put, seen, step, withMarks, shut, next, takeEntry, putEntry}
@@ -29,17 +29,7 @@ module _ (tag : List ℕ → Entry → List ℕ) (s : State) where
   unfolding next putEntry
   put-raises a v = (refl, refl)
 
-  -- its entry is added to the put hash, and to that alone
-  pub put-hashes : (e : Entry) → (putEntry tag s e .put ≡ withTag (s .put) (tag (s .key) e)) × (putEntry tag s e .take ≡ s .take)
-  unfolding putEntry
-  put-hashes e = (refl, refl)
-
-  -- a take adds the entry to the take hash, and to that alone
-  pub take-hashes : (e : Entry) → (takeEntry tag s e .take ≡ withTag (s .take) (tag (s .key) e)) × (takeEntry tag s e .put ≡ s .put)
-  unfolding takeEntry
-  take-hashes e = (refl, refl)
-
-  -- and marks a fault exactly where one was marked or the stamp is above the clock
+  -- a take marks a fault exactly where one was marked or the stamp is above the clock
   pub fault-marked : (e : Entry) → takeEntry tag s e .fault ≡ true → (s .fault ≡ true) ⊎ (s .clock < e .stamp)
   unfolding takeEntry
   fault-marked e h = go (s .fault) refl
@@ -54,7 +44,7 @@ module _ (tag : List ℕ → Entry → List ℕ) (s : State) where
   marks-fault e (inr h) = rw (lt-ltb (s .clock) (e .stamp) h, or-true)
 
 -- the hashes are equal and no fault is marked
-agrees-tells : (t : State) → agrees t ≡ true → (t .put ≡ t .take) × (t .fault ≡ false)
+pub agrees-tells : (t : State) → agrees t ≡ true → (t .put ≡ t .take) × (t .fault ≡ false)
 unfolding agrees
 agrees-tells t h =
     let p = both (sameHash (t .put) (t .take)) (not (t .fault)) h in
@@ -67,31 +57,30 @@ equal-agrees t h f = rw (equal-sameHash (t .put) (t .take) h, f)
 -- ---- the calls
 
 module _ (w : ℕ) (tag : List ℕ → Entry → List ℕ) (s : State) (m : List ℕ) where
-  -- add puts, and takes nothing
-  pub add-moves : (a : ℕ) (v : List ℕ) → let t = added w tag s m a v .seen .state in
-      (t .clock ≡ s .clock + 1) × (t .put ≡ withTag (s .put) (tag (s .key) (entry a v (s .clock + 1)))) × (t .take ≡ s .take) × (t .fault ≡ s .fault)
+  -- add puts, takes nothing and marks the address
+  pub add-moves : (a : ℕ) (v : List ℕ) → added w tag s m a v .seen .state
+      ≡ record { key = s .key; put = withTag (s .put) (tag (s .key) (entry a v (s .clock + 1))); take = s .take; clock = s .clock + 1; fault = s .fault; closed = s .closed; marks = marked (s .marks) a }
   unfolding added withMarks putEntry next
-  add-moves a v = (refl, refl, refl, refl)
+  add-moves a v = refl
 
   -- load and store take what the cell holds, the stamp compared with the clock at entry, and put once: the same value, or the new one
-  abbrev Exchanged : State → ℕ → List ℕ → Type 0
-  Exchanged t a v =
-      (t .clock ≡ s .clock + 1) × (t .put ≡ withTag (s .put) (tag (s .key) (entry a v (s .clock + 1)))) × (t .take ≡ withTag (s .take) (tag (s .key) (entryAt w m a)))
-      × (t .fault ≡ (s .fault || ltb (s .clock) (stampAt w m a)))
+  abbrev exchanged : ℕ → List ℕ → State
+  exchanged a v =
+      record { key = s .key; put = withTag (s .put) (tag (s .key) (entry a v (s .clock + 1))); take = withTag (s .take) (tag (s .key) (entryAt w m a)); clock = s .clock + 1; fault = s .fault || ltb (s .clock) (stampAt w m a); closed = s .closed; marks = s .marks }
 
-  pub load-moves : (a : ℕ) → Exchanged (loaded w tag s m a .seen .state) a (valueAt w m a) × (loaded w tag s m a .seen .out ≡ valueAt w m a)
+  pub load-moves : (a : ℕ) → (loaded w tag s m a .seen .state ≡ exchanged a (valueAt w m a)) × (loaded w tag s m a .seen .out ≡ valueAt w m a)
   unfolding loaded takeEntry putEntry next entryAt
-  load-moves a = ((refl, refl, refl, refl), refl)
+  load-moves a = (refl, refl)
 
-  pub store-moves : (a : ℕ) (v : List ℕ) → Exchanged (stored w tag s m a v .seen .state) a v
+  pub store-moves : (a : ℕ) (v : List ℕ) → stored w tag s m a v .seen .state ≡ exchanged a v
   unfolding stored takeEntry putEntry next entryAt
-  store-moves a v = (refl, refl, refl, refl)
+  store-moves a v = refl
 
-  -- remove takes, and the clock stays
-  pub remove-moves : (a : ℕ) → let t = removed w tag s m a .seen .state in
-      (t .clock ≡ s .clock) × (t .put ≡ s .put) × (t .take ≡ withTag (s .take) (tag (s .key) (entryAt w m a))) × (t .marks ≡ unmarked (s .marks) a)
-  unfolding removed withMarks takeEntry
-  remove-moves a = (refl, refl, refl, refl)
+  -- remove takes as they do and unmarks the address, and the clock stays
+  pub remove-moves : (a : ℕ) → removed w tag s m a .seen .state
+      ≡ record { key = s .key; put = s .put; take = withTag (s .take) (tag (s .key) (entryAt w m a)); clock = s .clock; fault = s .fault || ltb (s .clock) (stampAt w m a); closed = s .closed; marks = unmarked (s .marks) a }
+  unfolding removed withMarks takeEntry entryAt
+  remove-moves a = refl
 
   -- ---- 01, Check
 
@@ -113,31 +102,38 @@ module _ (w : ℕ) (tag : List ℕ → Entry → List ℕ) (s : State) (m : List
   unfolding checkOf call acceptance rejection
   equal-accepts e h f = rw (e, equal-agrees (takeBelow w tag s m addresses) h f)
 
-  -- accepted: the take hash begins empty, and the clock is 1, also with no address in use; each put has its cell's value and stamp 1
-  opened-below : (n : ℕ) → (openBelow w tag s m n .clock ≡ 1) × (openBelow w tag s m n .take ≡ emptyHash)
+  -- accepted: the take hash begins empty and the clock is 1, also with no address in use; the rest but the put hash is as it was
+  pub record Opens (t : State) : Type 0 where
+    pub key : t .key ≡ s .key
+    pub take : t .take ≡ emptyHash
+    pub clock : t .clock ≡ 1
+    pub fault : t .fault ≡ s .fault
+    pub closed : t .closed ≡ s .closed
+    pub marks : t .marks ≡ s .marks
+
+  pub opens-below : (n : ℕ) → Opens (openBelow w tag s m n)
   unfolding openBelow opened putEntry opening
-  opened-below zero = (refl, refl)
-  opened-below (suc n) = go (used (s .marks) n) (opened-below n)
+  opens-below zero = record { key = refl; take = refl; clock = refl; fault = refl; closed = refl; marks = refl }
+  opens-below (suc n) = go (used (s .marks) n) (opens-below n)
     where
-      go : (b : Bool) → (openBelow w tag s m n .clock ≡ 1) × (openBelow w tag s m n .take ≡ emptyHash)
-          → let t = choose b (putEntry tag (openBelow w tag s m n) (opening w m n)) (openBelow w tag s m n) in (t .clock ≡ 1) × (t .take ≡ emptyHash)
-      go true h = (refl, h .1)
+      go : (b : Bool) → Opens (openBelow w tag s m n) → Opens (choose b (putEntry tag (openBelow w tag s m n) (opening w m n)) (openBelow w tag s m n))
+      go true h = record { key = h .key; take = h .take; clock = refl; fault = h .fault; closed = h .closed; marks = h .marks }
       go false h = h
 
-  pub accepted-opens : let t = acceptance w tag s m .seen .state in (t .clock ≡ 1) × (t .take ≡ emptyHash)
+  pub accepted-opens : Opens (acceptance w tag s m .seen .state)
   unfolding acceptance
-  accepted-opens = opened-below addresses
+  accepted-opens = opens-below addresses
 
+  -- each put has its cell's value and stamp 1
   pub opening-put : (a : ℕ) → opening w m a ≡ entry a (valueAt w m a) 1
   unfolding opening
   opening-put a = refl
 
   -- rejected: the state given, closed, and the store as it was
   pub rejected-closes : let r = rejection w tag s m .seen in
-      (r .state .closed ≡ true) × (r .state .fault ≡ s .fault) × (r .state .clock ≡ s .clock) × (r .state .put ≡ s .put) × (r .state .take ≡ s .take) × (r .state .marks ≡ s .marks)
-      × (r .store ≡ m)
+      (r .state ≡ record { key = s .key; put = s .put; take = s .take; clock = s .clock; fault = s .fault; closed = true; marks = s .marks }) × (r .store ≡ m)
   unfolding rejection shut
-  rejected-closes = (refl, refl, refl, refl, refl, refl, refl)
+  rejected-closes = (refl, refl)
 
 -- ---- every address in use has its place
 
@@ -158,21 +154,16 @@ used-place {A} x ws (suc n) a h u = go (eqb a n) refl (used-place x ws n a)
         let r = ih (omega arith) u in
         (r .0, r .1 ++ choose (used ws n) (x n ∷ []) [], ap (λ (l : List A). l ++ choose (used ws n) (x n ∷ []) []) (r .2) ∙ append-assoc (r .0) (x a ∷ r .1) (choose (used ws n) (x n ∷ []) []))
 
--- one entry after the other
-abbrev pub inTurn : (State → Entry → State) → State → List Entry → State
-inTurn f t [] = t
-inTurn f t (e ∷ es) = inTurn f (f t e) es
-
-in-turn : (f : State → Entry → State) (t : State) (p q : List Entry) → inTurn f t (p ++ q) ≡ inTurn f (inTurn f t p) q
-in-turn f t [] q = refl
-in-turn f t (e ∷ p) q = in-turn f (f t e) p q
-
-in-turn-used : (f : State → Entry → State) (t u : State) (es : List Entry) (e : Entry) (b : Bool) → u ≡ inTurn f t es → choose b (f u e) u ≡ inTurn f t (es ++ choose b (e ∷ []) [])
-in-turn-used f t u es e b h = go b ∙ sym (in-turn f t es (choose b (e ∷ []) []))
+-- what goes from address to address, by x at each that is in use, is made of these one after the other
+pub fold-used : {S A : Type 0} (f : S → A → S) (x : ℕ → A) (ws : List ℕ) (g : ℕ → S) → ((n : ℕ) → g (suc n) ≡ choose (used ws n) (f (g n) (x n)) (g n)) → (n : ℕ)
+    → g n ≡ foldl f (g 0) (inUse x ws n)
+unfolding inUse
+fold-used f x ws g h zero = refl
+fold-used {S} f x ws g h (suc n) = h n ∙ go (used ws n) (fold-used f x ws g h n) ∙ sym (foldl-append f (g 0) (inUse x ws n) (choose (used ws n) (x n ∷ []) []))
   where
-    go : (b : Bool) → choose b (f u e) u ≡ inTurn f (inTurn f t es) (choose b (e ∷ []) [])
-    go true = ap (λ (x : State). f x e) h
-    go false = h
+    go : (b : Bool) → g n ≡ foldl f (g 0) (inUse x ws n) → choose b (f (g n) (x n)) (g n) ≡ foldl f (foldl f (g 0) (inUse x ws n)) (choose b (x n ∷ []) [])
+    go true e = ap (λ (t : S). f t (x n)) e
+    go false e = e
 
 module _ (w : ℕ) (tag : List ℕ → Entry → List ℕ) (s : State) (m : List ℕ) where
   -- a check takes each address in use, and puts each again where it accepts
@@ -185,14 +176,10 @@ module _ (w : ℕ) (tag : List ℕ → Entry → List ℕ) (s : State) (m : List
   puts-each = used-place (λ a. put (opening w m a)) (s .marks) addresses
 
   -- and so does its state: it is that after these entries, one after the other
-  pub taken-each : (n : ℕ) → takeBelow w tag s m n ≡ inTurn (takeEntry tag) s (inUse (entryAt w m) (s .marks) n)
-  unfolding takeBelow inUse
-  taken-each zero = refl
-  taken-each (suc n) =
-      in-turn-used (takeEntry tag) s (takeBelow w tag s m n) (inUse (entryAt w m) (s .marks) n) (entryAt w m n) (used (s .marks) n) (taken-each n)
+  pub taken-each : (n : ℕ) → takeBelow w tag s m n ≡ foldl (takeEntry tag) s (inUse (entryAt w m) (s .marks) n)
+  unfolding takeBelow
+  taken-each = fold-used (takeEntry tag) (entryAt w m) (s .marks) (takeBelow w tag s m) (λ n. refl)
 
-  pub opened-each : (n : ℕ) → openBelow w tag s m n ≡ inTurn (putEntry tag) (opened s) (inUse (opening w m) (s .marks) n)
-  unfolding openBelow inUse
-  opened-each zero = refl
-  opened-each (suc n) =
-      in-turn-used (putEntry tag) (opened s) (openBelow w tag s m n) (inUse (opening w m) (s .marks) n) (opening w m n) (used (s .marks) n) (opened-each n)
+  pub opened-each : (n : ℕ) → openBelow w tag s m n ≡ foldl (putEntry tag) (opened s) (inUse (opening w m) (s .marks) n)
+  unfolding openBelow
+  opened-each = fold-used (putEntry tag) (opening w m) (s .marks) (openBelow w tag s m) (λ n. refl)

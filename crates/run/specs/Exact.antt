@@ -1,0 +1,67 @@
+-- Demand 2, its sentence on the check, said of whole runs. In our words:
+--
+-- After any run, a check that is not refused accepts exactly when the entries put and the entries taken in its period have equal hashes, and no entry
+-- taken in its period, by a call or by the check itself, had a stamp ahead of the clock of its time. The period is demand 3's: all that was done since
+-- the accepted check before, or since the start, with the check's own takes at its end.
+--
+-- And at any time, as long as the state is not closed, it tells of the period so far: its hashes are those of the entries put and taken, under the key of
+-- the start, and no fault is marked exactly when no stamp was ahead.
+--
+-- The clock is told by what was done: 0 at the start, a put's stamp after that put, 1 after an accepted check. It is the state's clock.
+-- Of the tag nothing is asked, nor of the stamp's width. Assumes nothing.
+use mathlib.Core.Path.{_≡_}
+use mathlib.Core.Bool.{false}
+use mathlib.Core.List.{List, _∷_, _++_, foldl}
+use mathlib.Core.Logic.{_↔_}
+use Prim.Native.Nat.{ℕ, _<_}
+use Rattle.state.specs.Cells.{Entry}
+use Rattle.state.specs.Multiset.{hash}
+use Rattle.state.specs.Step.{Event, took, put, answered, set, dropped, accepted}
+use Rattle.state.specs.Check.{takes}
+use Rattle.state.specs.declared.State.{State}
+use Rattle.run.specs.Calls.{check, Lent, lent}
+use Rattle.run.specs.Demand3.{putIn, takenIn, Since, stateAfter, eventsOf, Done, Accepts}
+
+-- the clock after an event, c being the clock before it; and the clock after all that was done since the start
+unfoldable pub tick : ℕ → Event → ℕ
+tick c (took e) = c
+tick c (put e) = e .stamp
+tick c (answered a v) = c
+tick c (set a v) = c
+tick c (dropped a) = c
+tick c accepted = 1
+
+abbrev pub clockAfter : List Event → ℕ
+clockAfter = foldl tick 0
+
+-- an entry taken at the clock c has a stamp ahead of it
+abbrev pub Ahead : ℕ → Entry → Type 0
+Ahead c e = c < e .stamp
+
+-- of what was done after `past`, no take was ahead of the clock of its time
+abbrev pub NoneAhead : List Event → List Event → Type 0
+NoneAhead past es = (p q : List Event) (e : Entry) → es ≡ p ++ (took e ∷ q) → Ahead (clockAfter (past ++ p)) e → ⊥
+
+-- whatever was done, there is one period, and no other
+abbrev pub OnePeriod : Type 0
+OnePeriod = (all : List Event) → (period : List Event) × Since all period × ((other : List Event) → Since all other → other ≡ period)
+
+-- the state s tells of all that was done since a start with the key k
+pub record Tells (tag : List ℕ → Entry → List ℕ) (k : List ℕ) (s : State) (all period : List Event) (since : Since all period) : Type 0 where
+  pub key : s .key ≡ k
+  pub put : s .put ≡ hash (tag k) (putIn period)
+  pub take : s .take ≡ hash (tag k) (takenIn period)
+  pub clock : s .clock ≡ clockAfter all
+  pub fault : (s .fault ≡ false) ↔ NoneAhead (since .past) period
+
+module _ (w : ℕ) (tag : List ℕ → Entry → List ℕ) where
+  abbrev pub StateExact : Type 0
+  StateExact =
+      (key : List ℕ) (run : List Lent) → stateAfter w tag key run .closed ≡ false
+      → (period : List Event) (since : Since (eventsOf w tag key run) period) → Tells tag key (stateAfter w tag key run) (eventsOf w tag key run) period since
+
+  abbrev pub CheckExact : Type 0
+  CheckExact =
+      (key : List ℕ) (before : List Lent) (m : List ℕ) → Done w tag key before (lent check m)
+      → (period : List Event) (since : Since (eventsOf w tag key before ++ takes w (stateAfter w tag key before) m) period)
+      → Accepts w tag key before m ↔ ((hash (tag key) (putIn period) ≡ hash (tag key) (takenIn period)) × NoneAhead (since .past) period)
