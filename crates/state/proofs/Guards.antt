@@ -68,9 +68,10 @@ module _ (w : ℕ) (tag : List ℕ → Entry → List ℕ) (s : State) (m : List
   exchanged a v =
       record { key = s .key; put = withTag (s .put) (tag (s .key) (entry a v (s .clock + 1))); take = withTag (s .take) (tag (s .key) (entryAt w m a)); clock = s .clock + 1; fault = s .fault || ltb (s .clock) (stampAt w m a); closed = s .closed; marks = s .marks }
 
-  pub load-moves : (a : ℕ) → (loaded w tag s m a .seen .state ≡ exchanged a (valueAt w m a)) × (loaded w tag s m a .seen .out ≡ valueAt w m a)
+  -- a load gives 0 and the value whatever the stamp is
+  pub load-moves : (a : ℕ) → let r = loaded w tag s m a .seen in (r .state ≡ exchanged a (valueAt w m a)) × (r .number ≡ 0) × (r .out ≡ valueAt w m a)
   unfolding loaded takeEntry putEntry next entryAt
-  load-moves a = (refl, refl)
+  load-moves a = (refl, refl, refl)
 
   pub store-moves : (a : ℕ) (v : List ℕ) → stored w tag s m a v .seen .state ≡ exchanged a v
   unfolding stored takeEntry putEntry next entryAt
