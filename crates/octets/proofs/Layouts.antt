@@ -54,12 +54,6 @@ split-join (more {w} {v} {ws} {vs} h f) =
     let rest : split ws n ≡ vs = sym (split-mod ws n) ∙ ap (split ws) (low v (total ws) (join-below f)) ∙ split-join f in
     ap₂ (λ (x : ℕ) (l : List ℕ). x ∷ l) head rest
 
-pub join-injective : {ws us vs : List ℕ} → Fit ws us → Fit ws vs → join ws us ≡ join ws vs → us ≡ vs
-join-injective {ws} f g e = sym (split-join f) ∙ ap (split ws) e ∙ split-join g
-
-pub split-injective : (ws : List ℕ) {m n : ℕ} → m < 2 ^ total ws → n < 2 ^ total ws → split ws m ≡ split ws n → m ≡ n
-split-injective ws {m} {n} h g e = sym (join-split ws m h) ∙ ap (join ws) e ∙ join-split ws n g
-
 pub split-length : (ws : List ℕ) (n : ℕ) → length (split ws n) ≡ length ws
 unfolding split
 split-length [] n = refl
@@ -140,11 +134,6 @@ fit-bytes zero (x ∷ p) e g = absurd (omega arith)
 fit-bytes (suc n) [] e g = absurd (omega arith)
 fit-bytes (suc n) (x ∷ p) e g = more (g 0) (fit-bytes n p (omega arith) (λ i. g (suc i)))
 
-pub bytes-fit : (n : ℕ) {p : List ℕ} → Fit (octets n) p → (i : ℕ) → getD p i 0 < 2 ^ 8
-bytes-fit zero none i = omega arith
-bytes-fit (suc n) (more h f) zero = h
-bytes-fit (suc n) (more h f) (suc i) = bytes-fit n f i
-
 -- ---- bytes
 
 pub octets-total : (n : ℕ) → total (octets n) ≡ 8 * n
@@ -160,11 +149,6 @@ pow-bytes (suc w) = let e : 8 * suc w ≡ 8 + 8 * w = omega arith in ap (λ (k :
 pub bytes-length : (w n : ℕ) → length (bytes w n) ≡ w
 unfolding bytes
 bytes-length w n = split-length (octets w) n ∙ length-replicate w 8
-
--- every byte is below 256
-pub bytes-below : (w n i : ℕ) → getD (bytes w n) i 0 < 256
-unfolding bytes
-bytes-below w n i = bytes-fit w (split-fits (octets w) n) i
 
 pub number-bytes-mod : (w n : ℕ) → number (bytes w n) ≡ n % 2 ^ (8 * w)
 unfolding number bytes
@@ -191,9 +175,6 @@ bytes-number w {bs} f = let l : length bs ≡ w = fit-length f ∙ length-replic
 pub number-join : (w : ℕ) (bs : List ℕ) → length bs ≡ w → number bs ≡ join (octets w) bs
 unfolding number
 number-join w bs l = rw l
-
-pub number-injective : (w : ℕ) {ds bs : List ℕ} → Fit (octets w) ds → Fit (octets w) bs → number ds ≡ number bs → ds ≡ bs
-number-injective w f g e = sym (bytes-number w f) ∙ ap (bytes w) e ∙ bytes-number w g
 
 pub number-cons : (b : ℕ) (bs : List ℕ) → number (b ∷ bs) ≡ b * 2 ^ (8 * length bs) + number bs
 unfolding number join

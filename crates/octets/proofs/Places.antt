@@ -8,7 +8,7 @@ use native.Mathlib.Nat.{eq-or-lt-of-le, le-of-suc-le-suc, not-suc-le-zero}
 use native.Mathlib.Numerals.{add-one}
 use native.Mathlib.Omega.{arith}
 use lib.Bits.{bitXor}
-use lib.ListN.{length, getD, set, drop, length-append, length-drop, drop-of-length-le, List·getD-append}
+use lib.ListN.{length, getD, set, drop, length-append, drop-of-length-le, List·getD-append}
 use lib.Seq.{drop-cons, set-at, getD-at, ext-getD, append-snoc}
 use Rattle.octets.specs.Places.{tabulate, xor}
 
@@ -19,9 +19,6 @@ fill-next p d n x e h = rw (drop-cons d n 0, add-one) (set-at p (getD d n 0) (dr
 -- a list filled to its end
 pub fill-end : (p d : List ℕ) (n : ℕ) → length d ≤ n → p ++ drop n d ≡ p
 fill-end p d n h = rw (drop-of-length-le d h) (append-nil p)
-
-pub fill-length : (p d : List ℕ) (n : ℕ) → length p ≡ n → n ≤ length d → length (p ++ drop n d) ≡ length d
-fill-length p d n e h = simp (length-append, length-drop) (omega arith)
 
 pub tabulate-length : (f : ℕ → ℕ) (n : ℕ) → length (tabulate f n) ≡ n
 unfolding tabulate

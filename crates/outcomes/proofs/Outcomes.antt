@@ -5,7 +5,7 @@ use Rattle.refusal.specs.Refusal.{Filled}
 use Rattle.state.specs.Step.{Seen}
 use Rattle.state.specs.declared.Moved.{Moved}
 use Rattle.state.specs.declared.Checked.{Checked}
-use Rattle.outcomes.specs.Outcomes.{Tight, Outcomes}
+use Rattle.outcomes.specs.Outcomes.{Outcomes}
 
 -- from y, which is seen, the result and what the parameters hold at the end
 again : {Y R L : Type 0} (result : Y → R) (lasts : Y → L) {y x x′ : Y} → x ≡ y → x′ ≡ y → (result x ≡ result x′) × (lasts x ≡ lasts x′)

@@ -1,19 +1,19 @@
 -- The examples of the calls compute once the rows that an example fixes are known; the others are proved where their definitions stand. Assumes nothing.
-use borrow.Author.Tests.{eq-eqb, ne-eqb, lt-ltb}
+use borrow.Author.Tests.{eq-eqb, lt-ltb}
 use mathlib.Core.Path.{_≡_, refl, sym, ap, _∙_}
-use mathlib.Core.Bool.{Bool, true, false}
+use mathlib.Core.Bool.{false}
 use mathlib.Core.List.{List, [], _∷_, _++_, append-nil}
 use Prim.Native.Nat.{ℕ, _+_, _<_}
 use native.Mathlib.Omega.{arith}
 use lib.Dec.{eqb}
 use lib.ListN.{length, take, drop, replicate}
 use lib.Seq.{drop-length}
-use Rattle.octets.specs.Layout.{total, join, split, number, bytes}
+use Rattle.octets.specs.Layout.{total, split, number, bytes}
 use Rattle.refusal.specs.Refusal.{choose, first}
 use Rattle.refusal.proofs.Exact.{exactly}
 use Rattle.state.specs.Sizes.{width, addresses, valueSize, cellSize, storeSize, ceiling}
 use Rattle.state.specs.Marks.{used}
-use Rattle.state.specs.Cells.{Entry, entry, writeCell, writeEntry}
+use Rattle.state.specs.Cells.{entry, writeCell, writeEntry}
 use Rattle.state.specs.Multiset.{message}
 use Rattle.state.specs.Step.{Seen, Step, next, withMarks, putEntry}
 use Rattle.state.specs.Moves.{addRows, useRows, removeRows, lookRows, added, call, addOf, loadOf, storeOf, removeOf, lookOf}

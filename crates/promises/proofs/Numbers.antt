@@ -2,12 +2,12 @@
 -- Assumes nothing.
 use mathlib.Core.Path.{_≡_, refl, sym, ap, _∙_}
 use mathlib.Core.Bool.{Bool, true, false}
-use mathlib.Core.List.{List, [], _∷_}
+use mathlib.Core.List.{List, []}
 use mathlib.Core.Logic.{_↔_}
 use mathlib.Core.Option.{some}
 use Prim.Native.Nat.{ℕ, zero, suc}
 use native.Mathlib.Omega.{arith}
-use Rattle.refusal.specs.Refusal.{Row, first, choose, done, Given, Filled, filled, fills}
+use Rattle.refusal.specs.Refusal.{Row, first, choose, done, Given, fills}
 use Rattle.refusal.proofs.Exact.{exactly}
 use Rattle.refusal.proofs.Passed.{done-other}
 use lib.Dec.{eqb}
@@ -15,7 +15,7 @@ use lib.ListN.{length}
 use Rattle.state.specs.Sizes.{width, addresses, valueSize}
 use Rattle.state.specs.Marks.{lowestFrom}
 use Rattle.state.specs.Start.{none, startRows, startOf}
-use Rattle.state.specs.Step.{Seen, seen, Step}
+use Rattle.state.specs.Step.{seen, Step}
 use Rattle.state.specs.Moves.{call, added, loaded, stored, removed, addOf, loadOf, storeOf, removeOf, lookOf, lowestOf, freeNumber, addRows, useRows, removeRows, lookRows, lowestRows}
 use Rattle.state.specs.Check.{verdictNumber, checkRows, agrees, takeBelow, acceptance, rejection, checkOf}
 use Rattle.state.specs.declared.State.{State}

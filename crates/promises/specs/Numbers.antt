@@ -1,20 +1,19 @@
 -- 01, "Numbers given back", for each call: a number is given exactly when its row is the first that holds; and a refusal changes nothing.
 -- The rows of each call stand in the definitions that its contract cites. Assumes nothing.
 use mathlib.Core.Path.{_≡_}
-use mathlib.Core.List.{List, [], _∷_}
+use mathlib.Core.List.{List, []}
 use mathlib.Core.Logic.{_↔_}
 use mathlib.Core.Option.{some}
 use Prim.Native.Nat.{ℕ}
 use lib.ListN.{length}
-use Rattle.refusal.specs.Refusal.{Row, Given, Filled, filled}
+use Rattle.refusal.specs.Refusal.{Row, Given, Filled}
 use Rattle.state.specs.Sizes.{width}
-use Rattle.state.specs.Start.{none, startRows, started, startOf}
+use Rattle.state.specs.Start.{none, startRows, startOf}
 use Rattle.state.specs.Step.{Seen, seen}
 use Rattle.state.specs.Moves.{addRows, useRows, removeRows, lookRows, lowestRows, addOf, loadOf, storeOf, removeOf, lookOf, lowestOf, freeNumber}
 use Rattle.state.specs.Check.{verdictNumber, checkRows, checkOf}
 use Rattle.state.specs.declared.State.{State}
 use Rattle.state.specs.declared.Verdict.the-variants.{Nothing}
-use Rattle.state.specs.declared.Free.the-variants.{Full}
 use Rattle.multiset.specs.Tag.{tag}
 use Rattle.sha256.specs.Sha256.{digestRows, digestOf}
 use Rattle.hmac.specs.Hmac.{macRows, macOf}

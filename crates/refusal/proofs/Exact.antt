@@ -2,9 +2,9 @@
 use mathlib.Core.Path.{_≡_, refl, sym, ap, _∙_}
 use mathlib.Core.Bool.{Bool, true, false}
 use mathlib.Core.List.{List, [], _∷_, _++_}
-use mathlib.Core.Logic.{_⊎_, inl, inr}
+use mathlib.Core.Logic.{inl, inr}
 use Prim.Native.Nat.{ℕ}
-use Rattle.refusal.specs.Refusal.{Row, when, choose, first, NoneHolds, Refused, Given}
+use Rattle.refusal.specs.Refusal.{Row, choose, first, NoneHolds, Given}
 
 -- where no row holds the number is 0
 pub none-first : (rows : List Row) → NoneHolds rows → first rows ≡ 0

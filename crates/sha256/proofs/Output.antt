@@ -11,7 +11,7 @@ use Rattle.octets.proofs.Layouts.{bytes-4, bytes-length}
 use Rattle.octets.proofs.Places.{tabulate-is, tabulate-length}
 use Rattle.constants.specs.Constants.{H0}
 use Rattle.compress.specs.Compress.{compress, increased}
-use Rattle.sha256.specs.Sha256.{padded, hashed, absorbed, hashBytes, sha256, finished}
+use Rattle.sha256.specs.Sha256.{padded, hashed, absorbed, hashBytes, sha256}
 
 -- the byte i of a hash
 abbrev pub hashByte : List ℕ → ℕ → ℕ
@@ -42,10 +42,6 @@ hashed-length : (n : ℕ) (h p : List ℕ) → length h ≡ 8 → length (hashed
 unfolding hashed compress increased
 hashed-length zero h p e = e
 hashed-length (suc n) h p e = tabulate-length _ 8
-
-pub finished-length : (h : List ℕ) (before : ℕ) (rest : List ℕ) → length h ≡ 8 → length (finished h before rest) ≡ 8
-unfolding finished absorbed
-finished-length h before rest e = hashed-length _ h _ e
 
 pub sha256-length : (m : List ℕ) → length (sha256 m) ≡ 32
 unfolding sha256 absorbed H0

@@ -129,19 +129,6 @@ module _ (ws : List ℕ) (a : ℕ) (sixteen : length ws ≡ 16) (h : a < address
   used-unmarked b =
       after-set (bitAnd (getD ws (a / 64) 0) (2 ^ 64 - 1 - 2 ^ (a % 64))) (λ s t. not s && t) (λ t. refl) (λ j g. clear-digit (getD ws (a / 64) 0) (a % 64) j (omega arith) g) b
 
-  -- the address itself, and every other
-  pub marked-here : used (marked ws a) a ≡ true
-  marked-here = used-marked a ∙ rw (eq-eqb a a refl)
-
-  pub marked-other : (b : ℕ) → b ≢ a → used (marked ws a) b ≡ used ws b
-  marked-other b n = used-marked b ∙ rw (ne-eqb b a n)
-
-  pub unmarked-here : used (unmarked ws a) a ≡ false
-  unmarked-here = used-unmarked a ∙ rw (eq-eqb a a refl)
-
-  pub unmarked-other : (b : ℕ) → b ≢ a → used (unmarked ws a) b ≡ used ws b
-  unmarked-other b n = used-unmarked b ∙ rw (ne-eqb b a n)
-
 pub length-marked : (ws : List ℕ) (a : ℕ) → length (marked ws a) ≡ length ws
 unfolding marked
 length-marked ws a = length-set ws (a / 64) (bitOr (getD ws (a / 64) 0) (2 ^ (a % 64)))

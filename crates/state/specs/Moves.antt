@@ -1,6 +1,6 @@
 -- 01: add, load, store and remove; look; lowest free. Each call's refusals are its rows of the numbers' table, in the table's order.
 -- Over the stamp's width w and the tag. Assumes nothing.
-use mathlib.Core.Bool.{Bool, true, false, not}
+use mathlib.Core.Bool.{not}
 use mathlib.Core.List.{List, [], _∷_}
 use Prim.Native.Nat.{ℕ, _*_}
 use lib.Dec.{eqb, ltb}
@@ -9,9 +9,8 @@ use Rattle.refusal.specs.Refusal.{Row, when, first, done}
 use Rattle.state.specs.Sizes.{addresses, valueSize, cellSize, storeSize, ceiling}
 use Rattle.state.specs.Marks.{used, marked, unmarked, lowestFrom}
 use Rattle.state.specs.Cells.{Entry, valueAt, entryAt, writeCell, writeEntry}
-use Rattle.state.specs.Step.{Event, took, put, answered, set, dropped, Seen, seen, Step, step, withMarks, next, takeEntry, putEntry}
+use Rattle.state.specs.Step.{took, put, answered, set, dropped, seen, Step, step, withMarks, next, takeEntry, putEntry}
 use Rattle.state.specs.declared.State.{State}
-use Rattle.state.specs.declared.Verdict.{Verdict}
 use Rattle.state.specs.declared.Verdict.the-variants.{Nothing}
 use Rattle.state.specs.declared.Free.{Free}
 use Rattle.state.specs.declared.Free.the-variants.{At, Full}

@@ -1,6 +1,6 @@
 -- 01, "The trusted state and the moves": take and put, and what a call gives. The tag is a parameter: `tag key entry`.
 -- Assumes nothing.
-use mathlib.Core.Bool.{Bool, true, _||_}
+use mathlib.Core.Bool.{true, _||_}
 use mathlib.Core.List.{List}
 use Prim.Native.Nat.{ℕ, _+_}
 use lib.Dec.{ltb}

@@ -1,11 +1,11 @@
 -- `lent::copy` meets its contract: each turn pastes one byte more of `from`, until one of the two is at its end. Assumes nothing.
 use borrow.Author.Needs.{needs}
 use borrow.Author.Tests.{ltb-true, ltb-false}
-use mathlib.Core.Path.{_≡_, _∙_, ap}
+use mathlib.Core.Path.{_≡_, _∙_}
 use native.Mathlib.Omega.{arith}
-use Prim.Native.Nat.{ℕ, _≤_, _-_}
+use Prim.Native.Nat.{_≤_, _-_}
 use mathlib.Core.List.{_++_}
-use lib.ListN.{length, getD, set, take, drop, length-set}
+use lib.ListN.{length, set, take, drop, length-set}
 use Rattle.lent.proofs.Copied.{copied-more, copied-full, copied-short}
 use Rattle.lent.proofs.copy.Statement.{statement}
 use Rattle.lent.proofs.copy.Tie as tie

@@ -1,7 +1,7 @@
 -- `State::start` meets its contract: row 8 is tested, and the key is copied whole. Assumes nothing.
 use borrow.Author.Needs.{needs}
 use mathlib.Core.Path.{_≡_, ap, sym, _∙_}
-use mathlib.Core.Bool.{true, false}
+use mathlib.Core.Bool.{false}
 use lib.ListN.{length, replicate}
 use Rattle.state.specs.Start.{fresh, none, started}
 use Rattle.state.specs.Sizes.{keySize}
