@@ -1,7 +1,6 @@
 pub mod Calls
 pub mod Compares
 pub mod Copies
-pub mod Examples
 pub mod Fields
 pub mod Lawful
 pub mod Numbers

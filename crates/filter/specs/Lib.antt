@@ -1,4 +1,3 @@
-pub mod Examples
 pub mod Filter
 pub mod Going
 pub mod Promises

@@ -1,5 +1,5 @@
 -- The marks as a set of addresses: the count is how many there are, and the lowest free is the smallest that is not among them. Assumes nothing.
-use mathlib.Core.Path.{_≡_, refl, sym, ap, _∙_}
+use mathlib.Core.Path.{_≡_, refl, sym, ap, _∙_, subst}
 use mathlib.Core.Bool.{Bool, true, false, not}
 use mathlib.Core.List.{List, [], _∷_, _++_, append-nil, List·Memᴰ, List·Memᴰ·head, List·Memᴰ·tail, List·Memᴰ·not-nil, List·Memᴰ·append-cases, List·Memᴰ·eq-of-singleton, Memᴰ·append-left, Memᴰ·append-right}
 use mathlib.Core.Logic.{⊎-elim, _↔_}
@@ -7,20 +7,19 @@ use Prim.Native.Nat.{ℕ, zero, suc, _+_, _-_, _≤_, _<_}
 use native.Mathlib.Nat.{eq-or-lt-of-le, le-of-suc-le-suc, not-suc-le-zero}
 use native.Mathlib.Omega.{arith}
 use lib.ListN.{length, length-append}
+use borrow.Author.Tests.{eq-eqb, ne-eqb, not-true, not-false}
 use Rattle.refusal.specs.Refusal.{choose}
 use Rattle.state.specs.Sizes.{addresses}
 use Rattle.state.specs.Marks.{used, countBelow, countOf, lowestFrom}
 use Rattle.state.specs.Check.{inUse}
+use Rattle.state.specs.Moves.{lowestOf, freeNumber}
+use Rattle.state.specs.declared.Free.the-variants.{At, Full}
 use Rattle.marks.specs.Next.{firstFrom, nextUsed}
+use Rattle.marks.specs.Sets.{Distinct, Counted, Lowest, AllUsed}
 
 -- the addresses in use below n
 abbrev pub usedBelow : List ℕ → ℕ → List ℕ
 usedBelow ws n = inUse (λ a. a) ws n
-
--- no element occurs twice
-abbrev pub Distinct : List ℕ → Type 0
-Distinct [] = Unit
-Distinct (x ∷ xs) = (List·Memᴰ x xs → ⊥) × Distinct xs
 
 -- ---- the count
 
@@ -66,11 +65,14 @@ in-use-once ws (suc n) = step (used ws n) (in-use-once ws n)
     step true d = distinct-last (usedBelow ws n) n d (λ m. absurd (omega (arith, in-use-only ws n n m .0)))
     step false d = rw append-nil d
 
--- the count is the length of a list that has each address in use, and no other, once
-pub count-is : (ws : List ℕ) → (countOf ws ≡ length (usedBelow ws addresses)) × Distinct (usedBelow ws addresses)
-    × ((a : ℕ) → List·Memᴰ a (usedBelow ws addresses) ↔ ((a < addresses) × (used ws a ≡ true)))
+pub count-is : (ws : List ℕ) → Counted ws (countOf ws)
 unfolding countOf
-count-is ws = (count-length ws addresses, in-use-once ws addresses, λ a. (in-use-only ws addresses a, λ h. in-use-all ws addresses a (h .0) (h .1)))
+count-is ws = record {
+  inUse = usedBelow ws addresses;
+  size = count-length ws addresses;
+  once = in-use-once ws addresses;
+  each = λ a. (in-use-only ws addresses a, λ h. in-use-all ws addresses a (h .0) (h .1));
+}
 
 -- ---- the first address that something holds of
 
@@ -128,6 +130,54 @@ lowest-is ws = rw (lowest-first ws addresses 0) (first-is (free ws) addresses 0)
 
 pub lowest-only : (ws : List ℕ) (r : ℕ) → First (free ws) addresses 0 r → lowestFrom addresses 0 ws ≡ r
 lowest-only ws r f = lowest-first ws addresses 0 ∙ first-only (free ws) addresses 0 r f
+
+-- an address where the search ends below the last, and else none
+at-below : (ws : List ℕ) → lowestFrom addresses 0 ws < addresses → lowestOf ws ≡ At (lowestFrom addresses 0 ws)
+unfolding lowestOf
+at-below ws h = rw (ne-eqb (lowestFrom addresses 0 ws) addresses (λ e. omega arith))
+
+full-at : (ws : List ℕ) → lowestFrom addresses 0 ws ≡ addresses → lowestOf ws ≡ Full
+unfolding lowestOf
+full-at ws e = rw (eq-eqb (lowestFrom addresses 0 ws) addresses e)
+
+pub lowest-at : (ws : List ℕ) (a : ℕ) → (lowestOf ws ≡ At a) ↔ Lowest ws a
+unfolding freeNumber addresses
+lowest-at ws a = (
+  (λ e.
+      ⊎-elim (λ q. let y : 9 ≡ 0 = ap freeNumber (sym (full-at ws q) ∙ e) in absurd (omega arith))
+      (λ h.
+      let q : lowestFrom addresses 0 ws ≡ a = let k = sym (at-below ws h) ∙ e in cc in
+      record {
+        below = omega arith;
+        free = not-true (used ws a) (subst (λ r. free ws r ≡ true) q (lowest-is ws .here h));
+        before = λ b l. not-false (used ws b) (lowest-is ws .before b (omega arith) (omega arith));
+      })
+      (eq-or-lt-of-le (lowest-is ws .to))),
+  (λ l.
+      let q = lowest-only ws a (record {
+        from = omega arith;
+        to = omega (arith, l .below);
+        before = λ b g h. ap not (l .before b h);
+        here = λ h. ap not (l .free);
+      }) in
+      at-below ws (omega (arith, l .below)) ∙ ap At q),
+)
+
+pub lowest-full : (ws : List ℕ) → (lowestOf ws ≡ Full) ↔ AllUsed ws
+unfolding freeNumber addresses
+lowest-full ws = (
+  (λ e a h.
+      ⊎-elim (λ q. not-false (used ws a) (lowest-is ws .before a (omega arith) (omega arith)))
+      (λ k. let y : 9 ≡ 0 = ap freeNumber (sym e ∙ at-below ws k) in absurd (omega arith))
+      (eq-or-lt-of-le (lowest-is ws .to))),
+  (λ u.
+      full-at ws (lowest-only ws addresses (record {
+        from = omega arith;
+        to = omega arith;
+        before = λ b g h. ap not (u b h);
+        here = λ h. absurd (omega arith);
+      }))),
+)
 
 -- ---- the next address in use
 

@@ -12,19 +12,19 @@ use Rattle.octets.specs.Layout.{total, split, number, bytes}
 use Rattle.refusal.specs.Refusal.{choose, first}
 use Rattle.refusal.proofs.Exact.{exactly}
 use Rattle.state.specs.Sizes.{width, addresses, valueSize, cellSize, storeSize, ceiling}
-use Rattle.state.specs.Marks.{used}
+use Rattle.state.specs.Marks.{used, countBelow, countOf, lowestFrom}
 use Rattle.state.specs.Cells.{entry, writeCell, writeEntry}
 use Rattle.state.specs.Multiset.{message}
 use Rattle.state.specs.Step.{Seen, Step, next, withMarks, putEntry}
-use Rattle.state.specs.Moves.{addRows, useRows, removeRows, lookRows, added, call, addOf, loadOf, storeOf, removeOf, lookOf}
+use Rattle.state.specs.Moves.{addRows, useRows, removeRows, lookRows, added, call, addOf, loadOf, storeOf, removeOf, lookOf, lowestOf, freeNumber}
 use Rattle.state.specs.declared.State.{State}
+use Rattle.state.specs.declared.Free.the-variants.{At, Full}
 use Rattle.state.proofs.Ready.{call-done, add-ready}
 use Rattle.multiset.specs.Tag.{tag, tagOf}
-use Rattle.marks.proofs.Examples.{example-12, example-13}
-use Rattle.filter.proofs.Examples.{example-6, example-7, example-8, example-9, example-10, example-11}
+use Rattle.promises.proofs.Filters.{example-6, example-7, example-8, example-9, example-10, example-11}
 use Rattle.state.proofs.Multiset.{pairs}
 use Rattle.hmac.proofs.Answers.{hmac-length}
-use Rattle.promises.specs.Examples.{add, Sized, Examples}
+use Rattle.promises.specs.Examples.{add, full, Sized, Examples}
 use Rattle.promises.proofs.Numbers.{numbers}
 
 add-done : (s : State) (m : List ℕ) (a : ℕ) (v : List ℕ) → first (addRows width s m a v) ≡ 0 → add s m a v ≡ added width tag s m a v .seen
@@ -54,6 +54,14 @@ store-size m e = e
 five : message width (entry 5 (replicate 28 0) 3) ≡ 0x01 ∷ 0x00 ∷ 0x05 ∷ (replicate 28 0 ++ (0x00 ∷ 0x03 ∷ []))
 unfolding message bytes split total
 five = refl
+
+first-word : (countOf (full ∷ replicate 15 0) ≡ 64) × (lowestOf (full ∷ replicate 15 0) ≡ At 64)
+unfolding countOf countBelow used lowestOf lowestFrom addresses
+first-word = (refl, refl)
+
+all-words : (countOf (replicate 16 full) ≡ 1024) × (lowestOf (replicate 16 full) ≡ Full) × (freeNumber Full ≡ 9)
+unfolding countOf countBelow used lowestOf lowestFrom addresses freeNumber
+all-words = (refl, refl, refl)
 
 module _ (s : State) (m v : List ℕ) (z : Sized s m v) where
   past-end : (add s m 1024 v .number ≡ 2) × (loadOf width tag s m 1024 v .seen .number ≡ 2) × (storeOf width tag s m 1024 v .seen .number ≡ 2)
@@ -93,7 +101,7 @@ examples = record {
   past-prefix = example-9;
   member-0 = example-10;
   deny-128 = example-11;
-  marks-64 = example-12;
-  marks-all = example-13;
+  marks-64 = first-word;
+  marks-all = all-words;
   twins = λ key x y. pairs (tag key) (λ e. hmac-length key (message width e)) x y;
 }

@@ -1,3 +1,4 @@
+pub mod Filters
 pub mod Numbers
 pub mod Examples
 pub mod Demands

@@ -4,7 +4,7 @@ use mathlib.Core.Path.{_≡_, refl, sym, ap, _∙_}
 use mathlib.Core.Bool.{Bool, true, false}
 use mathlib.Core.List.{List, []}
 use mathlib.Core.Logic.{_↔_}
-use mathlib.Core.Option.{some}
+use mathlib.Core.Option.{some, Option·none-ne-some, Option·some-injective}
 use Prim.Native.Nat.{ℕ, zero, suc}
 use native.Mathlib.Omega.{arith}
 use Rattle.refusal.specs.Refusal.{Row, first, choose, done, Given, fills}
@@ -16,13 +16,15 @@ use Rattle.state.specs.Sizes.{width, addresses, valueSize}
 use Rattle.state.specs.Marks.{lowestFrom}
 use Rattle.state.specs.Start.{none, startRows, startOf}
 use Rattle.state.specs.Step.{seen, Step}
-use Rattle.state.specs.Moves.{call, added, loaded, stored, removed, addOf, loadOf, storeOf, removeOf, lookOf, lowestOf, freeNumber, addRows, useRows, removeRows, lookRows, lowestRows}
+use Rattle.state.specs.Moves.{call, added, loaded, stored, removed, addOf, loadOf, storeOf, removeOf, lookOf, lowestOf, freeNumber, freeAddress, addRows, useRows, removeRows, lookRows, lowestRows}
 use Rattle.state.specs.Check.{verdictNumber, checkRows, agrees, takeBelow, acceptance, rejection, checkOf}
 use Rattle.state.specs.declared.State.{State}
 use Rattle.state.specs.declared.Verdict.the-variants.{Nothing}
+use Rattle.state.specs.declared.Free.{Free}
 use Rattle.state.specs.declared.Free.the-variants.{At, Full}
 use Rattle.state.proofs.Ready.{look-ready, look-done, look-refused}
 use Rattle.state.proofs.Cells.{value-length}
+use Rattle.marks.proofs.Sets.{count-is, lowest-at, lowest-full}
 use Rattle.multiset.specs.Tag.{tag}
 use Rattle.sha256.specs.Sha256.{digestOf}
 use Rattle.hmac.specs.Hmac.{macOf}
@@ -90,8 +92,18 @@ unfolding freeNumber
 free-number true a = refl
 free-number false a = refl
 
+address-tells : (f : Free) (a : ℕ) → freeAddress f ≡ some a → f ≡ At a
+unfolding freeAddress
+address-tells (At b) a e = ap At (Option·some-injective b a e)
+address-tells Full a e = absurd (Option·none-ne-some a e)
+
+number-tells : (f : Free) → freeNumber f ≡ 9 → f ≡ Full
+unfolding freeNumber
+number-tells (At a) e = absurd (omega arith)
+number-tells Full e = refl
+
 pub numbers : Numbers
-unfolding call startOf addOf loadOf storeOf removeOf checkOf digestOf macOf lowestOf added loaded stored removed acceptance rejection
+unfolding freeNumber freeAddress call startOf addOf loadOf storeOf removeOf checkOf digestOf macOf lowestOf added loaded stored removed acceptance rejection
 numbers = record {
   start = λ n k. rows-exactly (startRows k) _ n refl;
   start-refused = λ k h. done-other (first (startRows k)) _ none h;
@@ -107,7 +119,10 @@ numbers = record {
       check-verdict (first (checkRows width s m)) s m (choose b x y) (check-number b x y refl refl) (said b x y refl refl);
   look-size = look-size;
   look = look-exactly;
+  count = count-is;
   lowest-free = λ n ws. rows-exactly (lowestRows ws) _ n (free-number (eqb (lowestFrom addresses 0 ws) addresses) (lowestFrom addresses 0 ws));
+  lowest-at = λ a ws. (λ e. lowest-at ws a .0 (address-tells (lowestOf ws) a e), λ l. ap freeAddress (lowest-at ws a .1 l));
+  lowest-full = λ ws. (λ e. lowest-full ws .0 (number-tells (lowestOf ws) e), λ u. ap freeNumber (lowest-full ws .1 u));
   digest = λ m out. fills-exactly _ _ out;
   mac = λ k m out. fills-exactly _ _ out;
   filter = filter-numbers;

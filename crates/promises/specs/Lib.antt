@@ -1,3 +1,4 @@
+pub mod Filters
 pub mod Examples
 pub mod Numbers
 pub mod Demands

@@ -14,13 +14,13 @@ use Rattle.refusal.specs.Refusal.{first}
 use Rattle.octets.proofs.Layouts.{fit-bytes, number-below, pow-bytes}
 use Rattle.state.specs.Sizes.{addresses, valueSize, cellSize, storeSize, ceiling}
 use Rattle.state.specs.Cells.{Entry, valueAt, stampAt, entryAt}
-use Rattle.state.specs.Multiset.{message}
+use Rattle.state.specs.Multiset.{message, Fits}
 use Rattle.state.specs.Step.{Event, took, put, answered, set, dropped, accepted, Step, next, takeEntry}
 use Rattle.state.specs.Moves.{added, loaded, stored, removed}
 use Rattle.state.specs.Check.{opening, agrees, takes, puts, takeBelow, acceptance, rejection}
 use Rattle.state.specs.declared.State.{State}
 use Rattle.state.proofs.Cells.{cell-within, value-length}
-use Rattle.state.proofs.Messages.{Sized, message-injective}
+use Rattle.state.proofs.Messages.{message-injective}
 use Rattle.run.specs.Calls.{Call, add, load, store, remove, check, look, count, lowest, Lent, step, events}
 use Rattle.run.specs.Demand3.{stateAfter, result, eventsOf}
 use Rattle.run.proofs.Lists.{by-last, place-stays, Each, each-none, each-more, each-both}
@@ -34,7 +34,7 @@ use Rattle.run.proofs.Honest.{below-bound}
 -- ---- the entries of one call
 
 -- what a put entry keeps to
-pub record Fits (w : ℕ) (e : Entry) : Type 0 where
+pub record InCell (w : ℕ) (e : Entry) : Type 0 where
   pub address : e .address < addresses
   pub value : length (e .value) ≡ valueSize
   pub stamp : e .stamp ≤ ceiling w
@@ -42,7 +42,7 @@ pub record Fits (w : ℕ) (e : Entry) : Type 0 where
 -- a put entry fits, and T holds of an entry taken
 abbrev pub Right : ℕ → (Entry → Type 0) → Event → Type 0
 Right w T (took e) = T e
-Right w T (put e) = Fits w e
+Right w T (put e) = InCell w e
 Right w T (answered a v) = Unit {0}
 Right w T (set a v) = Unit {0}
 Right w T (dropped a) = Unit {0}
@@ -54,7 +54,7 @@ module _ (w : ℕ) (one : 1 ≤ w) (tag : List ℕ → Entry → List ℕ) (T : 
   R = Right w T
 
   -- the entry that a call puts
-  next-fits : (a : ℕ) (v : List ℕ) → a < addresses → length v ≡ valueSize → s .clock ≢ ceiling w → Fits w (next s a v)
+  next-fits : (a : ℕ) (v : List ℕ) → a < addresses → length v ≡ valueSize → s .clock ≢ ceiling w → InCell w (next s a v)
   unfolding next
   next-fits a v h k n = record { address = h; value = k; stamp = omega arith }
 
@@ -64,7 +64,7 @@ module _ (w : ℕ) (one : 1 ≤ w) (tag : List ℕ → Entry → List ℕ) (T : 
   exchanged a v x h p k n =
       each-more R _ _ (taken a (p .below) (p .size)) (each-more R _ _ (next-fits a v (p .below) k n) (each-more R x [] h (each-none R)))
 
-  opening-fits : length m ≡ storeSize w → (a : ℕ) → a < addresses → Fits w (opening w m a)
+  opening-fits : length m ≡ storeSize w → (a : ℕ) → a < addresses → InCell w (opening w m a)
   unfolding opening
   opening-fits size a h = record { address = h; value = value-length w m a h size; stamp = ceiling-one w one }
 
@@ -106,7 +106,7 @@ part-bytes m h n w i = go (ltb i w) refl
     go true e = rw (getD-take w (drop n m) i 0 (ltb-true i w e), getD-drop n m i 0) (h (n + i))
     go false e = rw (List·getD-eq-default (take w (drop n m)) 0 {n = i} (omega (arith, length-take w (drop n m), ltb-false i w e))) (omega arith)
 
-taken-sized : (w : ℕ) (m : List ℕ) → Bytes m → (a : ℕ) → a < addresses → length m ≡ storeSize w → Sized w (entryAt w m a)
+taken-sized : (w : ℕ) (m : List ℕ) → Bytes m → (a : ℕ) → a < addresses → length m ≡ storeSize w → Fits w (entryAt w m a)
 unfolding entryAt stampAt addresses cellSize
 taken-sized w m h a k l =
     let n : ℕ = (valueSize + w) * a + valueSize in
@@ -127,17 +127,17 @@ module _ (w : ℕ) (one : 1 ≤ w) (tag : List ℕ → Entry → List ℕ) (key 
       (step-right w one tag T (stateAfter w tag key run) (x .bytes) (clock-bounded w tag key one run) (f (x .bytes) (h run [] x refl)) (x .call))))
 
   -- each entry put, whatever is lent
-  pub put-fits : (run : List Lent) (p q : List Event) (e : Entry) → eventsOf w tag key run ≡ p ++ (put e ∷ q) → Fits w e
+  pub put-fits : (run : List Lent) (p q : List Event) (e : Entry) → eventsOf w tag key run ≡ p ++ (put e ∷ q) → InCell w e
   put-fits run p q e = run-right (λ d. Unit {0}) (λ m. Unit {0}) (λ m h a k l. tt) run (λ before later x k. tt) p q (put e)
 
   -- and each entry put or taken, where every lent store is bytes
   pub entries-sized : (run : List Lent) → ((before later : List Lent) (x : Lent) → run ≡ before ++ (x ∷ later) → Bytes (x .bytes))
-      → (p q : List Event) (e : Entry) → (eventsOf w tag key run ≡ p ++ (put e ∷ q)) ⊎ (eventsOf w tag key run ≡ p ++ (took e ∷ q)) → Sized w e
+      → (p q : List Event) (e : Entry) → (eventsOf w tag key run ≡ p ++ (put e ∷ q)) ⊎ (eventsOf w tag key run ≡ p ++ (took e ∷ q)) → Fits w e
   unfolding addresses
   entries-sized run h p q e (inl k) =
       let f = put-fits run p q e k in
       record { address = omega (arith, f .address); value = f .value; stamp = below-bound w (e .stamp) (f .stamp) }
-  entries-sized run h p q e (inr k) = run-right (Sized w) Bytes (taken-sized w) run h p q (took e) k
+  entries-sized run h p q e (inr k) = run-right (Fits w) Bytes (taken-sized w) run h p q (took e) k
 
   -- so two entries of a run with one message are one entry
   pub message-tells : (run : List Lent) → ((before later : List Lent) (x : Lent) → run ≡ before ++ (x ∷ later) → Bytes (x .bytes))

@@ -7,13 +7,14 @@ use mathlib.Core.Logic.{_⊎_, inl, inr}
 use Prim.Native.Nat.{ℕ, zero, suc, _+_, _<_}
 use native.Mathlib.Omega.{arith}
 use lib.Dec.{eqb, ltb}
+use lib.ListN.{replicate}
 use borrow.Author.Tests.{eqb-true, eqb-false, ltb-true, lt-ltb, not-true}
 use Rattle.refusal.specs.Refusal.{first, choose, done}
-use Rattle.state.specs.Sizes.{addresses}
+use Rattle.state.specs.Sizes.{addresses, valueSize}
 use Rattle.state.specs.Marks.{used, marked, unmarked}
-use Rattle.state.specs.Cells.{Entry, entry, valueAt, stampAt, entryAt}
+use Rattle.state.specs.Cells.{Entry, entry, valueAt, stampAt, entryAt, writeCell, writeEntry}
 use Rattle.state.specs.Multiset.{emptyHash, withTag, sameHash}
-use Rattle.state.specs.Step.{Event, took, put, seen, step, withMarks, shut, next, takeEntry, putEntry}
+use Rattle.state.specs.Step.{Event, took, put, Seen, seen, step, withMarks, shut, next, takeEntry, putEntry}
 use Rattle.state.specs.Moves.{call, added, loaded, stored, removed}
 use Rattle.state.specs.Check.{checkRows, inUse, opened, opening, agrees, takes, puts, takeBelow, openBelow, acceptance, rejection, checkOf}
 use Rattle.state.specs.declared.State.{State}
@@ -58,28 +59,31 @@ equal-agrees t h f = rw (equal-sameHash (t .put) (t .take) h, f)
 
 module _ (w : ℕ) (tag : List ℕ → Entry → List ℕ) (s : State) (m : List ℕ) where
   -- add puts, takes nothing and marks the address
-  pub add-moves : (a : ℕ) (v : List ℕ) → added w tag s m a v .seen .state
-      ≡ record { key = s .key; put = withTag (s .put) (tag (s .key) (entry a v (s .clock + 1))); take = s .take; clock = s .clock + 1; fault = s .fault; closed = s .closed; marks = marked (s .marks) a }
-  unfolding added withMarks putEntry next
+  pub add-moves : (a : ℕ) (v : List ℕ) → added w tag s m a v .seen
+      ≡ seen 0 Nothing (record { key = s .key; put = withTag (s .put) (tag (s .key) (entry a v (s .clock + 1))); take = s .take; clock = s .clock + 1; fault = s .fault; closed = s .closed; marks = marked (s .marks) a })
+      (writeCell w m a v (s .clock + 1)) []
+  unfolding added withMarks putEntry next writeEntry
   add-moves a v = refl
 
   -- load and store take what the cell holds, the stamp compared with the clock at entry, and put once: the same value, or the new one
-  abbrev exchanged : ℕ → List ℕ → State
-  exchanged a v =
-      record { key = s .key; put = withTag (s .put) (tag (s .key) (entry a v (s .clock + 1))); take = withTag (s .take) (tag (s .key) (entryAt w m a)); clock = s .clock + 1; fault = s .fault || ltb (s .clock) (stampAt w m a); closed = s .closed; marks = s .marks }
+  abbrev exchanged : ℕ → List ℕ → List ℕ → Seen
+  exchanged a v o =
+      seen 0 Nothing (record { key = s .key; put = withTag (s .put) (tag (s .key) (entry a v (s .clock + 1))); take = withTag (s .take) (tag (s .key) (entryAt w m a)); clock = s .clock + 1; fault = s .fault || ltb (s .clock) (stampAt w m a); closed = s .closed; marks = s .marks })
+      (writeCell w m a v (s .clock + 1)) o
 
   -- a load gives 0 and the value whatever the stamp is
-  pub load-moves : (a : ℕ) → let r = loaded w tag s m a .seen in (r .state ≡ exchanged a (valueAt w m a)) × (r .number ≡ 0) × (r .out ≡ valueAt w m a)
-  unfolding loaded takeEntry putEntry next entryAt
-  load-moves a = (refl, refl, refl)
+  pub load-moves : (a : ℕ) → loaded w tag s m a .seen ≡ exchanged a (valueAt w m a) (valueAt w m a)
+  unfolding loaded takeEntry putEntry next entryAt writeEntry
+  load-moves a = refl
 
-  pub store-moves : (a : ℕ) (v : List ℕ) → stored w tag s m a v .seen .state ≡ exchanged a v
-  unfolding stored takeEntry putEntry next entryAt
+  pub store-moves : (a : ℕ) (v : List ℕ) → stored w tag s m a v .seen ≡ exchanged a v []
+  unfolding stored takeEntry putEntry next entryAt writeEntry
   store-moves a v = refl
 
-  -- remove takes as they do and unmarks the address, and the clock stays
-  pub remove-moves : (a : ℕ) → removed w tag s m a .seen .state
-      ≡ record { key = s .key; put = s .put; take = withTag (s .take) (tag (s .key) (entryAt w m a)); clock = s .clock; fault = s .fault || ltb (s .clock) (stampAt w m a); closed = s .closed; marks = unmarked (s .marks) a }
+  -- remove takes as they do, fills the cell with zeros and unmarks the address, and the clock stays
+  pub remove-moves : (a : ℕ) → removed w tag s m a .seen
+      ≡ seen 0 Nothing (record { key = s .key; put = s .put; take = withTag (s .take) (tag (s .key) (entryAt w m a)); clock = s .clock; fault = s .fault || ltb (s .clock) (stampAt w m a); closed = s .closed; marks = unmarked (s .marks) a })
+      (writeCell w m a (replicate valueSize 0) 0) []
   unfolding removed withMarks takeEntry entryAt
   remove-moves a = refl
 

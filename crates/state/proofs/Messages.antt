@@ -8,13 +8,7 @@ use Rattle.octets.specs.Layout.{bytes}
 use Rattle.octets.proofs.Layouts.{bytes-length, bytes-injective, pow-bytes}
 use Rattle.state.specs.Sizes.{valueSize}
 use Rattle.state.specs.Cells.{Entry}
-use Rattle.state.specs.Multiset.{message}
-
--- an entry whose parts fit their places in a message
-pub record Sized (w : ℕ) (e : Entry) : Type 0 where
-  pub address : e .address < 65536
-  pub value : length (e .value) ≡ valueSize
-  pub stamp : e .stamp < 256 ^ w
+use Rattle.state.specs.Multiset.{message, Fits}
 
 -- two lists joined, the first ones of one length
 apart : (a b x y : List ℕ) (n : ℕ) → length a ≡ n → length b ≡ n → a ++ x ≡ b ++ y → (a ≡ b) × (x ≡ y)
@@ -23,7 +17,7 @@ apart a b x y n h k e = (sym (take-at a x n h) ∙ ap (take n) e ∙ take-at b y
 bytes-apart : (w m n : ℕ) → m < 256 ^ w → n < 256 ^ w → bytes w m ≡ bytes w n → m ≡ n
 bytes-apart w m n h k = bytes-injective w (rw (pow-bytes w) h) (rw (pow-bytes w) k)
 
-pub message-injective : (w : ℕ) (d e : Entry) → Sized w d → Sized w e → message w d ≡ message w e → d ≡ e
+pub message-injective : (w : ℕ) (d e : Entry) → Fits w d → Fits w e → message w d ≡ message w e → d ≡ e
 unfolding message
 message-injective w d e h k q =
     let p =

@@ -6,7 +6,7 @@ use lib.ListN.{take, drop}
 use Rattle.octets.specs.Layout.{number, bytes}
 use Rattle.state.specs.Sizes.{valueSize, cellSize}
 
--- a record of the multiset: an address, a value and a stamp
+-- an element of the multisets: an address, a value and a stamp
 pub record Entry : Type 0 where
   pub address : ℕ
   pub value : List ℕ

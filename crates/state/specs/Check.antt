@@ -59,7 +59,7 @@ module _ (w : ℕ) (tag : List ℕ → Entry → List ℕ) where
   takeBelow s m zero = s
   takeBelow s m (suc n) = choose (used (s .marks) n) (takeEntry tag (takeBelow s m n) (entryAt w m n)) (takeBelow s m n)
 
-  -- the state after the addresses in use below n are put again
+  -- the state of the new period, after the addresses in use below n are put
   unfoldable pub openBelow : State → List ℕ → ℕ → State
   openBelow s m zero = opened s
   openBelow s m (suc n) = choose (used (s .marks) n) (putEntry tag (openBelow s m n) (opening w m n)) (openBelow s m n)

@@ -2,6 +2,7 @@
 -- Over the stamp's width w and the tag. Assumes nothing.
 use mathlib.Core.Bool.{not}
 use mathlib.Core.List.{List, [], _∷_}
+use mathlib.Core.Option.{Option, none, some}
 use Prim.Native.Nat.{ℕ, _*_}
 use lib.Dec.{eqb, ltb}
 use lib.ListN.{length, replicate}
@@ -103,7 +104,7 @@ lookOf w m a = done (first (lookRows w m a)) (valueAt w m a) []
 unfoldable pub lookFrom : ℕ → List ℕ → ℕ → ℕ
 lookFrom w m a = done (first (lookRows w m a)) (cellSize w * a) 0
 
--- Lowest free, and the numbers of its answers
+-- Lowest free, and the number and the address of each of its answers
 abbrev pub lowestRows : List ℕ → List Row
 lowestRows ws = when 9 (eqb (lowestFrom addresses 0 ws) addresses) ∷ []
 
@@ -113,3 +114,7 @@ lowestOf ws = done (first (lowestRows ws)) (At (lowestFrom addresses 0 ws)) Full
 unfoldable pub freeNumber : Free → ℕ
 freeNumber (At a) = 0
 freeNumber Full = 9
+
+unfoldable pub freeAddress : Free → Option ℕ
+freeAddress (At a) = some a
+freeAddress Full = none

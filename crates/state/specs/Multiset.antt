@@ -1,18 +1,26 @@
 -- 01, The multiset hash: the MSet-XOR hash of the source (its definition 4.4) with no nonce.
 -- Assumes nothing.
+use mathlib.Core.Path.{_≡_}
 use mathlib.Core.Bool.{Bool, true, false, _&&_}
 use mathlib.Core.List.{List, [], _∷_, _++_, map}
-use Prim.Native.Nat.{ℕ, _+_, _%_, _^_}
+use Prim.Native.Nat.{ℕ, _+_, _%_, _^_, _<_}
 use lib.Dec.{eqb}
 use lib.ListN.{length, replicate}
 use Rattle.octets.specs.Layout.{bytes}
 use Rattle.octets.specs.Places.{xor}
+use Rattle.state.specs.Sizes.{valueSize}
 use Rattle.state.specs.Cells.{Entry}
 use Rattle.state.specs.declared.Hash.{Hash}
 
 -- an entry's message: 01, the address in 2 bytes, the value, the stamp in w bytes
 unfoldable pub message : ℕ → Entry → List ℕ
 message w e = 1 ∷ (bytes 2 (e .address) ++ (e .value ++ bytes w (e .stamp)))
+
+-- an entry whose parts fit their places in a message
+pub record Fits (w : ℕ) (e : Entry) : Type 0 where
+  pub address : e .address < 65536
+  pub value : length (e .value) ≡ valueSize
+  pub stamp : e .stamp < 256 ^ w
 
 -- the exclusive-or of some tags: 32 zero bytes for none
 unfoldable pub xorAll : List (List ℕ) → List ℕ

@@ -1,4 +1,4 @@
--- 01, "Sizes", over the stamp's width in bytes, w. They stay shut, so that nothing counts up to them.
+-- 01, "Sizes", over the stamp's width in bytes, w.
 -- Assumes nothing.
 use Prim.Native.Nat.{ℕ, _+_, _*_, _-_, _^_}
 

@@ -8,10 +8,11 @@ use borrow.Author.Tests.{ne-eqb}
 use Rattle.octets.specs.Layout.{total, join, split, octets, number, bytes}
 use Rattle.octets.proofs.Layouts.{fit-test, fit-each}
 use Rattle.refusal.specs.Refusal.{Filled, filled, first}
 use Rattle.filter.specs.Filter.{FieldsFit, partsIn, spareIn, filterIn, bytesOf, setPast, filterRows, unpackRows, packOf, unpackOf}
-use Rattle.filter.specs.Examples.{permit, Example6, Example7, Example8, Example9, Example10, deny11, Example11}
+use Rattle.filter.specs.declared.Family.the-variants.{Ipv4, Ipv6}
+use Rattle.promises.specs.Filters.{permit, Example6, Example7, Example8, Example9, Example10, deny11, Example11, zeros, ZerosLawful}
 use Rattle.filter.proofs.Calls.{pack-refused, pack-done}
 use Rattle.filter.proofs.Fields.{written, front-number, word-of}
 
 pub example-6 : Example6
 unfolding total join split number bytes partsIn bytesOf filterIn spareIn setPast filterRows unpackRows unpackOf
@@ -58,3 +59,8 @@ example-11 a s p h g out l =
         written (deny11 a s) (fits-11 a s h g) hs
         (fit-each (octets 12) hs (omega arith, (omega arith, (omega arith, (omega arith, (omega arith, (omega arith, (omega arith, (omega arith, (omega arith, (omega arith, (omega arith, (omega arith, tt)))))))))))))
         refl refl (front-number 1 0 128 128 0 a s _ _ _ _ _ _ _ _ _ _ _ _ (omega arith) (word-of a) (word-of s))
+
+pub zeros-lawful : ZerosLawful
+unfolding filterRows setPast number join total
+zeros-lawful Ipv4 out l = sym (ap (λ (x : Filled). x .number) (pack-done (zeros Ipv4) out l refl))
+zeros-lawful Ipv6 out l = sym (ap (λ (x : Filled). x .number) (pack-done (zeros Ipv6) out l refl))
