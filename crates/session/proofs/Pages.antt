@@ -74,12 +74,13 @@ unfolding write
 write-none o a h = ap₂ page (ap (λ l. take a o ++ l) (copied-none (drop a o)) ∙ take-append-drop a o) (omega arith)
 
 -- a page written by a copy to the part of it from a place on
-pub write-part : (o l r : List ℕ) (n m : ℕ) → n ≤ length o → r ≡ take n o ++ (copied (take (length o - n) (drop n o)) l ++ drop (length o - n) (drop n o))
-    → m ≡ min (length o) (n + length l) → page r m ≡ write (page o n) l
+pub write-part : (o l k : List ℕ) (n m : ℕ) → n ≤ length o → k ≡ copied (take (length o - n) (drop n o)) l → m ≡ min (length o) (n + length l)
+    → page (take n o ++ (k ++ drop (length o - n) (drop n o))) m ≡ write (page o n) l
 unfolding write
-write-part o l r n m h e f =
-    let k : length (drop n o) ≤ length o - n = omega (arith, length-drop n o) in
-    ap₂ page (e ∙ ap (λ d. take n o ++ d) (ap₂ _++_ (ap (λ d. copied d l) (take-all (length o - n) (drop n o) k)) (drop-of-length-le (drop n o) {i = length o - n} k) ∙ append-nil (copied (drop n o) l))) f
+write-part o l k n m h e f =
+    let d : length (drop n o) ≤ length o - n = omega (arith, length-drop n o) in
+    let whole : k ≡ copied (drop n o) l = e ∙ ap (λ x. copied x l) (take-all (length o - n) (drop n o) d) in
+    ap₂ page (ap (λ x. take n o ++ x) (ap₂ _++_ whole (drop-of-length-le (drop n o) {i = length o - n} d) ∙ append-nil (copied (drop n o) l))) f
 
 pub write-length : (g : Page) (l : List ℕ) → length (write g l .bytes) ≡ length (g .bytes)
 unfolding write

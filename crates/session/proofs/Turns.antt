@@ -1,6 +1,6 @@
 -- A session goes line by line: what the first line prints, and what the others print after it. Assumes nothing.
 use borrow.Author.Tests.{lt-ltb, le-ltb}
-use mathlib.Core.Path.{_≡_, ap, _∙_}
+use mathlib.Core.Path.{_≡_, sym, ap, _∙_}
 use mathlib.Core.List.{List, _∷_}
 use native.Mathlib.Omega.{arith}
 use Prim.Native.Nat.{ℕ, _+_, _-_, _≤_, _<_}
@@ -17,6 +17,10 @@ use Rattle.state.specs.declared.State.{State}
 use Rattle.session.specs.Session.{Ran, ranLine, outputOf, sessionOf}
 use Rattle.session.specs.Page.{Page, write, Desk, after}
 use Rattle.session.proofs.Pages.{write-write, write-at}
+
+-- a command under another name
+pub same-command : (g : Page) (s : State) (m : List ℕ) (c d : Command) (x : Desk) → x ≡ after g (ranLine s m c) → d ≡ c → x ≡ after g (ranLine s m d)
+same-command g s m c d x e q = e ∙ ap (λ k. after g (ranLine s m k)) (sym q)
 
 -- a line and the others
 pub turn : (g : Page) (s : State) (m : List ℕ) (c : Command) (line : List ℕ) (ls : List (List ℕ)) (d : Desk) → c ≡ parsed line → d ≡ after g (ranLine s m c)

@@ -30,10 +30,14 @@ returns-4 : tie.Need-returns-4 Inv-loop μ-loop
 returns-4 c = sym (decimal-stray _ (c .before .before .before .before .loop .i) _ (search needs) (c .before .digit .ensures) (c .if4 .taken))
 
 returns-5 : tie.Need-returns-5 Inv-loop μ-loop
-returns-5 c = let l = c .before .before .before .before .before .loop in sym (read-over _ _ (l .i) (read-more _ _ (l .i) _ (l .inv .2) (search needs) (l .inv .4) (c .before .before .digit .ensures) (search needs)) (c .if5 .taken))
+returns-5 c =
+    let l = c .before .before .before .before .before .loop in
+    sym (read-over _ _ (l .i) (read-more _ _ (l .i) _ (l .inv .2) (search needs) (l .inv .4) (c .before .before .digit .ensures) (search needs)) (c .if5 .taken))
 
 loop-again : tie.Need-loop-again Inv-loop μ-loop
-loop-again c = let l = c .before .before .before .before .before .loop in (omega arith, omega arith, l .inv .2, omega arith, read-more _ _ (l .i) _ (l .inv .2) (search needs) (l .inv .4) (c .before .before .digit .ensures) (search needs))
+loop-again c =
+    let l = c .before .before .before .before .before .loop in
+    (omega arith, omega arith, l .inv .2, omega arith, read-more _ _ (l .i) _ (l .inv .2) (search needs) (l .inv .4) (c .before .before .digit .ensures) (search needs))
 
 returns-6 : tie.Need-returns-6 Inv-loop μ-loop
 returns-6 c = let l = c .before .loop in sym (read-whole _ _ (l .i) (l .inv .4) (l .inv .1) (search needs) (l .inv .3))

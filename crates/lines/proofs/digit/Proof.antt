@@ -11,13 +11,13 @@ returns : tie.Need-returns
 returns c = sym (digit-none (c .before .args .b) (λ d h e. omega arith) (λ d g h e. omega arith))
 
 returns-2 : tie.Need-returns-2
-returns-2 c = sym (digit-low (c .before .before .args .b) (c .before .before .args .b - 48) (omega arith) (omega arith))
+returns-2 c = let b = c .before .before .args .b in sym (digit-low b (b - 48) (omega arith) (omega arith))
 
 returns-3 : tie.Need-returns-3
 returns-3 c = sym (digit-none (c .before .before .before .args .b) (λ d h e. omega arith) (λ d g h e. omega arith))
 
 returns-4 : tie.Need-returns-4
-returns-4 c = sym (digit-high (c .before .before .before .before .args .b) (c .before .before .before .before .args .b - 97 + 10) (omega arith) (omega arith) (omega arith))
+returns-4 c = let b = c .before .before .before .before .args .b in sym (digit-high b (b - 97 + 10) (omega arith) (omega arith) (omega arith))
 
 returns-5 : tie.Need-returns-5
 returns-5 c = sym (digit-none (c .before .before .before .before .args .b) (λ d h e. omega arith) (λ d g h e. omega arith))

@@ -16,7 +16,10 @@ returns-3 : tie.Need-returns-3
 returns-3 c = sym (hex-low _ _ (c .before .digit2 .ensures) (omega arith))
 
 returns-4 : tie.Need-returns-4
-returns-4 c = sym (hex-two _ (c .before .before .before .before .digit .result) (c .before .digit2 .result) (search needs) (c .before .before .before .before .digit .ensures) (c .before .digit2 .ensures) (omega arith) (omega arith))
+returns-4 c =
+    let h = c .before .before .before .before .digit in
+    let l = c .before .digit2 in
+    sym (hex-two _ (h .result) (l .result) (search needs) (h .ensures) (l .ensures) (omega arith) (omega arith))
 
 pub hex-spec : {M : Type 1} → statement M
 hex-spec =

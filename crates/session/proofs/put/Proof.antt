@@ -1,10 +1,7 @@
 -- `session::put` meets its contract: the part of the buffer from the place on is copied to, unless the buffer is full. Assumes nothing.
 use borrow.Author.Needs.{needs}
-use mathlib.Core.Path.{sym, ap}
-use mathlib.Core.List.{_++_}
+use mathlib.Core.Path.{sym}
 use native.Mathlib.Omega.{arith}
-use Prim.Native.Nat.{_-_}
-use lib.ListN.{length, take, drop}
 use Rattle.session.proofs.Pages.{write-full, write-part}
 use Rattle.session.proofs.put.Statement.{statement}
 use Rattle.session.proofs.put.Tie as tie
@@ -13,10 +10,16 @@ returns : tie.Need-returns
 returns c = sym (write-full _ _ _ (omega arith))
 
 returns-2 : tie.Need-returns-2
-returns-2 c = let a = c .before .before .before .before .before .before .before .before .args in write-part (a .out .now) _ _ (a .at) _ (omega arith) (ap (λ l. take (a .at) (a .out .now) ++ (l ++ drop (length (a .out .now) - a .at) (drop (a .at) (a .out .now)))) (c .before .before .before .copy .ensures)) (omega arith)
+returns-2 c =
+    let d = c .before .before .before in
+    let a = d .before .before .before .before .before .args in
+    write-part (a .out .now) _ _ (a .at) _ (omega arith) (d .copy .ensures) (omega arith)
 
 returns-3 : tie.Need-returns-3
-returns-3 c = let a = c .before .before .before .before .before .before .before .before .args in write-part (a .out .now) _ _ (a .at) _ (omega arith) (ap (λ l. take (a .at) (a .out .now) ++ (l ++ drop (length (a .out .now) - a .at) (drop (a .at) (a .out .now)))) (c .before .before .before .copy .ensures)) (omega arith)
+returns-3 c =
+    let d = c .before .before .before in
+    let a = d .before .before .before .before .before .args in
+    write-part (a .out .now) _ _ (a .at) _ (omega arith) (d .copy .ensures) (omega arith)
 
 pub put-spec : {M : Type 1} → statement M
 put-spec =

@@ -17,7 +17,12 @@ unfolding storeSize
 run-lines-requires c κs = sym (c .before .before .before .before .zeros .ensures .1)
 
 returns-2 : tie.Need-returns-2
-returns-2 c = c .before .before .before .run-lines .ensures ∙ ap (write _) (sym (session-short (c .before .before .before .before .before .before .before .before .before .before .before .before .args .input .now) _ _ (omega arith) (ap (λ (x : Started). x .state) (c .before .before .before .before .before .before .start .ensures)) (c .before .before .before .before .before .before .before .before .zeros .ensures .0)))
+returns-2 c =
+    let r = c .before .before .before in
+    let s = r .before .before .before in
+    let z = s .before .before in
+    let input = z .before .before .before .before .args .input .now in
+    r .run-lines .ensures ∙ ap (write _) (sym (session-short input _ _ (omega arith) (ap (λ (x : Started). x .state) (s .start .ensures)) (z .zeros .ensures .0)))
 
 pub run-spec : {M : Type 1} → statement M
 run-spec =

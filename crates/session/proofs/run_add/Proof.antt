@@ -11,7 +11,10 @@ use Rattle.session.proofs.run_add.Tie as tie
 
 returns : tie.Need-returns
 unfolding spaced ranLine valueSize
-returns c = let a = c .before .before .before .before .before .before .before .before .before .before .before .before .before .args in ap (desk _ _) (c .before .before .say .ensures) ∙ ap (λ x. after (page (a .out .now) (a .at)) (numbered (ascii "add") x)) (c .before .before .before .before .before .before .before .before .add .ensures)
+returns c =
+    let d = c .before .before .before .before .before .before .before .before in
+    let a = d .before .before .before .before .before .args in
+    ap (desk _ _) (c .before .before .say .ensures) ∙ ap (λ x. after (page (a .out .now) (a .at)) (numbered (ascii "add") x)) (d .add .ensures)
 
 pub run-add-spec : {M : Type 1} → statement M
 run-add-spec =

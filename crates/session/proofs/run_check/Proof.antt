@@ -2,15 +2,17 @@
 use borrow.Author.Needs.{needs}
 use mathlib.Core.Path.{ap, _∙_}
 use Rattle.lines.specs.Grammar.{spaced}
-use Rattle.state.specs.Sizes.{valueSize}
 use Rattle.session.specs.Session.{checkSaid, ranLine}
 use Rattle.session.specs.Page.{page, desk, after}
 use Rattle.session.proofs.run_check.Statement.{statement}
 use Rattle.session.proofs.run_check.Tie as tie
 
 returns : tie.Need-returns
-unfolding spaced ranLine valueSize
-returns c = let a = c .before .before .before .before .before .before .before .before .before .before .before .args in ap (desk _ _) (c .before .before .say-verdict .ensures) ∙ ap (λ x. after (page (a .out .now) (a .at)) (checkSaid x)) (c .before .before .before .before .before .before .before .check .ensures)
+unfolding spaced ranLine
+returns c =
+    let d = c .before .before .before .before .before .before .before in
+    let a = d .before .before .before .before .args in
+    ap (desk _ _) (c .before .before .say-verdict .ensures) ∙ ap (λ x. after (page (a .out .now) (a .at)) (checkSaid x)) (d .check .ensures)
 
 pub run-check-spec : {M : Type 1} → statement M
 run-check-spec =

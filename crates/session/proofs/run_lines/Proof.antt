@@ -16,7 +16,9 @@ use Rattle.session.proofs.run_lines.Statement.{statement}
 use Rattle.session.proofs.run_lines.Tie as tie
 
 abbrev Inv-loop : tie.InvT-loop
-Inv-loop store₀ input out₀ state₀ at₀ done₀ store out state at done = (length store ≡ storeSize width) × (length out ≡ length out₀) × (at ≤ length out) × (write (page out at) (outputOf state store (linesIn (drop done input))) ≡ write (page out₀ 0) (outputOf state₀ store₀ (linesIn input)))
+Inv-loop store₀ input out₀ state₀ at₀ done₀ store out state at done =
+    (length store ≡ storeSize width) × (length out ≡ length out₀) × (at ≤ length out)
+    × (write (page out at) (outputOf state store (linesIn (drop done input))) ≡ write (page out₀ 0) (outputOf state₀ store₀ (linesIn input)))
 
 abbrev μ-loop : tie.MeasureT-loop
 μ-loop store₀ input out₀ state₀ at₀ done₀ store out state at done = length input - done
@@ -31,16 +33,24 @@ run-command-requires : tie.Need-run-command-requires Inv-loop μ-loop
 run-command-requires c κs = c .before .before .before .before .before .before .before .loop .inv .0
 
 add-done : tie.Need-add-done Inv-loop μ-loop
-add-done c = omega (arith, simp (length-take, length-drop) at (c .before .before .before .before .before .before .before .before .before .before .find .ensures .1), c .before .before .before .before .before .before .before .before .before .before .before .before .before .before .before .before .before .good)
+add-done c = let d = c .before .before .before .before .before .before .before .before .before .before in omega (arith, simp (length-take, length-drop) at (d .find .ensures .1), d .before .before .before .before .before .before .before .good)
 
 add-done-2 : tie.Need-add-done-2 Inv-loop μ-loop
-add-done-2 c = omega (arith, simp (length-take, length-drop) at (c .before .before .before .before .before .before .before .before .before .before .find .ensures .1), c .before .before .before .before .before .before .before .before .before .before .before .before .before .before .before .before .before .good)
+add-done-2 c = let d = c .before .before .before .before .before .before .before .before .before .before in omega (arith, simp (length-take, length-drop) at (d .find .ensures .1), d .before .before .before .before .before .before .before .good)
 
 loop-again : tie.Need-loop-again Inv-loop μ-loop
 loop-again c =
-    let l = c .before .before .before .before .before .before .before .before .before .before .before .before .before .loop in
-    let r = c .before .before .before .before .before .run-command in
-    (r .kept .1 .0 ∙ l .inv .0, r .kept .1 .1 .1 .0 ∙ l .inv .1, omega (arith, after-at _ _ _ (r .ensures), r .kept .1 .1 .1 .0), turn _ _ _ _ _ _ _ (c .before .before .before .before .before .before .before .parse .ensures) (r .ensures) ∙ ap (λ ls. write (page (l .out) (l .at)) (outputOf (l .state) (l .store) ls)) (sym (next-line (c .before .before .before .before .before .before .before .before .before .before .before .before .before .before .before .before .before .args .input .now) (l .done) _ (c .before .before .before .before .before .before .before .before .before .before .before .before .loop-test .taken) (c .before .before .before .before .before .before .before .before .before .before .find .ensures .0))) ∙ l .inv .3)
+    let e = c .before .before .before .before .before in
+    let r = e .run-command in
+    let d = e .before .before .before .before .before in
+    let l = d .before .before .before .loop in (
+      r .kept .1 .0 ∙ l .inv .0,
+      r .kept .1 .1 .1 .0 ∙ l .inv .1,
+      omega (arith, after-at _ _ _ (r .ensures), r .kept .1 .1 .1 .0),
+      turn _ _ _ _ _ _ _ (e .before .before .parse .ensures) (r .ensures)
+          ∙ ap (λ ls. write (page (l .out) (l .at)) (outputOf (l .state) (l .store) ls)) (sym (next-line (d .before .before .before .before .before .before .before .args .input .now) (l .done) _ (d .before .before .loop-test .taken) (d .find .ensures .0)))
+          ∙ l .inv .3,
+    )
 
 same-length : tie.Need-same-length Inv-loop μ-loop
 same-length c = c .before .loop .inv .0 ∙ sym (c .before .before .before .before .before .pre)
@@ -50,7 +60,11 @@ same-length-2 c = c .before .loop .inv .1
 
 returns : tie.Need-returns Inv-loop μ-loop
 unfolding outputOf
-returns c = let l = c .before .loop in sym (write-none _ _ (l .inv .2)) ∙ ap (λ ls. write (page (l .out) (l .at)) (outputOf (l .state) (l .store) ls)) (sym (ap linesIn (drop-of-length-le _ {i = l .done} (c .loop-test .left)) ∙ lines-none)) ∙ l .inv .3
+returns c =
+    let l = c .before .loop in
+    sym (write-none _ _ (l .inv .2))
+    ∙ ap (λ ls. write (page (l .out) (l .at)) (outputOf (l .state) (l .store) ls)) (sym (ap linesIn (drop-of-length-le _ {i = l .done} (c .loop-test .left)) ∙ lines-none))
+    ∙ l .inv .3
 
 pub run-lines-spec : {M : Type 1} → statement M
 run-lines-spec =

@@ -11,11 +11,23 @@ use Rattle.session.proofs.run_load.Tie as tie
 
 returns : tie.Need-returns
 unfolding spaced ranLine valueSize
-returns c = let a = c .before .before .before .before .before .before .before .before .before .before .before .before .before .before .before .args in let l = c .before .before .before .before .before .before .before .before .before .before .load in ap (desk _ _) (c .before .before .say-byte .ensures) ∙ load-worked _ (l .result .number) _ _ (l .last .1 .1 .1 .0) (c .before .before .before .before .if1 .taken) ∙ ap (λ x. after (page (a .out .now) (a .at)) (loadSaid x)) (l .ensures)
+returns c =
+    let d = c .before .before .before .before .before .before .before .before .before .before in
+    let l = d .load in
+    let a = d .before .before .before .before .before .args in
+    ap (desk _ _) (c .before .before .say-byte .ensures)
+    ∙ load-worked _ (l .result .number) _ _ (l .last .1 .1 .1 .0) (c .before .before .before .before .if1 .taken)
+    ∙ ap (λ x. after (page (a .out .now) (a .at)) (loadSaid x)) (l .ensures)
 
 returns-2 : tie.Need-returns-2
 unfolding spaced ranLine valueSize
-returns-2 c = let a = c .before .before .before .before .before .before .before .before .before .before .before .before .before .before .before .before .args in let l = c .before .before .before .before .before .before .before .before .before .before .before .load in ap (desk _ _) (c .before .before .say .ensures) ∙ load-refused _ (l .result .number) _ _ (l .last .1 .1 .1 .0) (c .before .before .before .before .before .if1 .left) ∙ ap (λ x. after (page (a .out .now) (a .at)) (loadSaid x)) (l .ensures)
+returns-2 c =
+    let d = c .before .before .before .before .before .before .before .before .before .before .before in
+    let l = d .load in
+    let a = d .before .before .before .before .before .args in
+    ap (desk _ _) (c .before .before .say .ensures)
+    ∙ load-refused _ (l .result .number) _ _ (l .last .1 .1 .1 .0) (c .before .before .before .before .before .if1 .left)
+    ∙ ap (λ x. after (page (a .out .now) (a .at)) (loadSaid x)) (l .ensures)
 
 pub run-load-spec : {M : Type 1} → statement M
 run-load-spec =

@@ -3,15 +3,17 @@ use borrow.Author.Needs.{needs}
 use mathlib.Core.Path.{ap, _∙_}
 use Rattle.lines.specs.Text.{ascii}
 use Rattle.lines.specs.Grammar.{spaced}
-use Rattle.state.specs.Sizes.{valueSize}
 use Rattle.session.specs.Session.{numbered, ranLine}
 use Rattle.session.specs.Page.{page, desk, after}
 use Rattle.session.proofs.run_remove.Statement.{statement}
 use Rattle.session.proofs.run_remove.Tie as tie
 
 returns : tie.Need-returns
-unfolding spaced ranLine valueSize
-returns c = let a = c .before .before .before .before .before .before .before .before .before .before .before .before .args in ap (desk _ _) (c .before .before .say .ensures) ∙ ap (λ x. after (page (a .out .now) (a .at)) (numbered (ascii "remove") x)) (c .before .before .before .before .before .before .before .before .remove .ensures)
+unfolding spaced ranLine
+returns c =
+    let d = c .before .before .before .before .before .before .before .before in
+    let a = d .before .before .before .before .args in
+    ap (desk _ _) (c .before .before .say .ensures) ∙ ap (λ x. after (page (a .out .now) (a .at)) (numbered (ascii "remove") x)) (d .remove .ensures)
 
 pub run-remove-spec : {M : Type 1} → statement M
 run-remove-spec =

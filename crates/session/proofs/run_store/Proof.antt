@@ -11,7 +11,10 @@ use Rattle.session.proofs.run_store.Tie as tie
 
 returns : tie.Need-returns
 unfolding spaced ranLine valueSize
-returns c = let a = c .before .before .before .before .before .before .before .before .before .before .before .before .before .args in ap (desk _ _) (c .before .before .say .ensures) ∙ ap (λ x. after (page (a .out .now) (a .at)) (numbered (ascii "store") x)) (c .before .before .before .before .before .before .before .before .store .ensures)
+returns c =
+    let d = c .before .before .before .before .before .before .before .before in
+    let a = d .before .before .before .before .before .args in
+    ap (desk _ _) (c .before .before .say .ensures) ∙ ap (λ x. after (page (a .out .now) (a .at)) (numbered (ascii "store") x)) (d .store .ensures)
 
 pub run-store-spec : {M : Type 1} → statement M
 run-store-spec =

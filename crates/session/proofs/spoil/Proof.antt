@@ -23,7 +23,12 @@ part-copy-end c = search needs
 
 returns-2 : tie.Need-returns-2
 unfolding addresses valueSize cellSize storeSize writeCell
-returns-2 c = let x = c .before .before .before .before .before .before .before .args in ap (filled 0) (ap₂ (λ (k l : List ℕ). take (30 * x .a) (x .store .now) ++ (k ++ l)) (c .before .before .copy .ensures ∙ copied-all _ _ (simp (length-take, length-drop) (omega arith)) ∙ cell-filled (x .v) (x .t) (search needs)) (post-is (30 * x .a) (30 * x .a + 30) (x .store .now) (omega arith))) ∙ sym (spoil-done (x .a) _ _ (omega arith))
+returns-2 c =
+    let d = c .before .before in
+    let x = d .before .before .before .before .before .args in
+    let filling = d .copy .ensures ∙ copied-all _ _ (simp (length-take, length-drop) (omega arith)) ∙ cell-filled (x .v) (x .t) (search needs) in
+    ap (filled 0) (ap₂ (λ (k l : List ℕ). take (30 * x .a) (x .store .now) ++ (k ++ l)) filling (post-is (30 * x .a) (30 * x .a + 30) (x .store .now) (omega arith)))
+    ∙ sym (spoil-done (x .a) _ _ (omega arith))
 
 pub spoil-spec : {M : Type 1} → statement M
 spoil-spec =
