@@ -2,12 +2,11 @@
 use mathlib.Core.Path.{_≡_, refl, ap}
 use mathlib.Core.Bool.{Bool, true, false, cond, _&&_}
 use mathlib.Core.List.{List, [], _∷_, _++_}
-use Prim.Native.Nat.{ℕ, zero, suc, _+_, _*_, _≤_, _<_, min}
+use Prim.Native.Nat.{ℕ, zero, suc, _+_, _*_, _≤_, _<_}
 use native.Mathlib.Omega.{arith}
 use borrow.Author.Tests.{ltb-true, ltb-false}
 use lib.Dec.{T, eqb, ltb}
-use lib.ListN.{length, take, drop, replicate, length-append}
-use lib.Seq.{take-all, take-append-seam}
+use lib.ListN.{length, replicate, length-append}
 use Rattle.refusal.specs.Refusal.{Row, choose, first, done}
 use Rattle.lines.specs.Text.{ascii, decimal, hex}
 use Rattle.lines.specs.Grammar.{newline, onto, parts, spaced, linesIn}
@@ -15,7 +14,6 @@ use Rattle.lines.specs.Parse.{parsed}
 use Rattle.lines.specs.declared.Command.{Command}
 use Rattle.lines.specs.declared.Command.the-variants.{Add, Store, Load, Remove, Check, Spoil, Bad}
 use Rattle.lines.proofs.Numerals.{decimal-small}
-use Rattle.lent.specs.Lent.{copied}
 use Rattle.state.specs.Sizes.{width, addresses, storeSize}
 use Rattle.state.specs.Start.{startOf}
 use Rattle.state.specs.Step.{Seen, seen, Step}
@@ -26,7 +24,7 @@ use Rattle.state.specs.declared.Verdict.{Verdict}
 use Rattle.state.specs.declared.Verdict.the-variants.{Accept, Reject, Nothing}
 use Rattle.multiset.specs.Tag.{tag}
 use Rattle.session.specs.Session.{filledWith, printed, loadSaid, checkSaid, spoilOf, ranLine, outputOf, sessionOf}
-use Rattle.session.specs.Page.{Page, page, write}
+use Rattle.session.specs.Fits.{SessionFits}
 use Rattle.session.proofs.Turns.{session-long, session-short}
 
 -- every number of these rows is one digit
@@ -123,7 +121,7 @@ lines-fit (x ∷ xs) = go (eqb x newline) (lines-fit xs)
     go true h = omega arith
     go false h = omega (arith, onto-length x (linesIn xs))
 
-pub session-fits : (input : List ℕ) → length (sessionOf input) ≤ 65536
+pub session-fits : SessionFits
 session-fits input = go (ltb 4096 (length input)) refl
   where
     go : (b : Bool) → ltb 4096 (length input) ≡ b → length (sessionOf input) ≤ 65536
@@ -133,11 +131,3 @@ session-fits input = go (ltb 4096 (length input)) refl
         let m : List ℕ = replicate (storeSize width) 0 in
         let h : length input ≤ 4096 = ltb-false 4096 (length input) e in
         rw (session-short input s m h refl refl) (omega (arith, output-fits s m (linesIn input), lines-fit input))
-
--- so a buffer of 65,536 bytes holds all that is printed, up to the place that `run` gives
-pub session-whole : (input out : List ℕ) (p : Page) → length out ≡ 65536 → p ≡ write (page out 0) (sessionOf input) → take (p .at) (p .bytes) ≡ sessionOf input
-unfolding write copied
-session-whole input out p h e =
-    let l = sessionOf input in
-    let n : min (length out) (0 + length l) ≡ length l = omega (arith, session-fits input) in
-    rw (e, n, take-all (length out) l (omega (arith, session-fits input))) (take-append-seam l (drop (length l) out))

@@ -9,7 +9,7 @@ use lib.Dec.{leb}
 use lib.ListN.{length, take, drop, length-append, length-take, length-drop, take-append-drop, drop-of-length-le}
 use lib.Seq.{length-take-le, take-all, take-nil, drop-nil, take-append-add, drop-append-add}
 use Rattle.lent.specs.Lent.{copied}
-use Rattle.session.specs.Page.{Page, page, write}
+use Rattle.session.specs.Page.{Page, page, write, whole}
 
 copied-none : (o : List ℕ) → copied o [] ≡ o
 unfolding copied
@@ -82,14 +82,17 @@ write-part o l k n m h e f =
     let whole : k ≡ copied (drop n o) l = e ∙ ap (λ x. copied x l) (take-all (length o - n) (drop n o) d) in
     ap₂ page (ap (λ x. take n o ++ x) (ap₂ _++_ whole (drop-of-length-le (drop n o) {i = length o - n} d) ∙ append-nil (copied (drop n o) l))) f
 
-pub write-length : (g : Page) (l : List ℕ) → length (write g l .bytes) ≡ length (g .bytes)
-unfolding write
-write-length g l = simp (length-append, length-take, length-copied, length-drop) (omega arith)
-
+-- the place after a write lies on the page
 pub write-at : (g : Page) (l : List ℕ) → write g l .at ≤ length (g .bytes)
 unfolding write
 write-at g l = omega arith
 
--- what is written up to lies on the page
-pub page-within : (g : Page) (l o : List ℕ) (n : ℕ) → page o n ≡ write g l → n ≤ length o
-page-within g l o n e = omega (arith, ap (λ (p : Page). p .at) e, ap (λ (p : Page). length (p .bytes)) e, write-at g l, write-length g l)
+-- a text that fits is written whole
+pub write-whole : (o l : List ℕ) → length l ≤ length o → write (page o 0) l ≡ whole o l
+unfolding write whole copied
+write-whole o l h = ap₂ page (ap (λ k. k ++ drop (length l) o) (take-all (length o) l h)) (omega arith)
+
+-- and lies in the buffer
+pub whole-within : (o l k : List ℕ) (n : ℕ) → page k n ≡ whole o l → n ≤ length k
+unfolding whole
+whole-within o l k n e = omega (arith, ap (λ (p : Page). p .at) e, simp length-append at (ap (λ (p : Page). length (p .bytes)) e))

@@ -18,6 +18,10 @@ page bs n = record { bytes = bs; at = n }
 unfoldable pub write : Page → List ℕ → Page
 write p text = page (take (p .at) (p .bytes) ++ copied (drop (p .at) (p .bytes)) text) (min (length (p .bytes)) (p .at + length text))
 
+-- the head of a buffer overwritten by a whole text
+unfoldable pub whole : List ℕ → List ℕ → Page
+whole bs text = page (text ++ drop (length text) bs) (length text)
+
 -- a state, a store and a page
 pub record Desk : Type 0 where
   pub state : State

@@ -86,3 +86,7 @@ unfoldable pub sessionOf : List ℕ → List ℕ
 sessionOf input =
     choose (ltb limit (length input)) (printed (ascii "too long" ∷ []))
     (outputOf (startOf (replicate keySize 0) .state) (replicate (storeSize width) 0) (linesIn input))
+
+-- the bytes of the buffer that a session is printed to
+abbrev pub room : ℕ
+room = 65536

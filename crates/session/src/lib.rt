@@ -16,10 +16,13 @@ ghost use Rattle.refusal.specs.Refusal.{filled, fills};
 ghost use Rattle.state.specs.Cells.{writeCell};
 ghost use Rattle.state.specs.Moves.{addressRow};
 ghost use Rattle.session.specs.Session.{filledWith, verdictWord, ranLine, outputOf, sessionOf};
-ghost use Rattle.session.specs.Page.{page, write, desk, after};
+ghost use Rattle.session.specs.Page.{page, write, whole, desk, after};
 
 // The longest input.
 pub const LIMIT: usize = 4096;
+
+// The buffer that holds whatever a session prints.
+pub const ROOM: usize = 65536;
 
 // The state after a line, and the place up to which the buffer is written.
 struct Ran {
@@ -27,9 +30,9 @@ struct Ran {
     at: usize,
 }
 
-// Runs a whole session: what it prints is written to `out`, as much as fits. Gives how much was written.
-pub fn run(input: &[u8], out: &mut [u8]) -> usize
-    ensures { λ r. ⌜ page (now (out .exit)) r ≡ write (page (now (out .entry)) 0) (sessionOf (now (input .entry))) ⌝ }
+// Runs a whole session: all that it prints is written to the head of `out`. Gives how much that is.
+pub fn run(input: &[u8], out: &mut [u8; ROOM]) -> usize
+    ensures { λ r. ⌜ page (now (out .exit)) r ≡ whole (now (out .entry)) (sessionOf (now (input .entry))) ⌝ }
 {
     if input.len() > LIMIT {
         return put(out, 0, b"too long\n");
