@@ -1,3 +1,2 @@
 pub mod Session
 pub mod Fits
-pub mod Page

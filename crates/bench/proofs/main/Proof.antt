@@ -2,7 +2,7 @@
 use borrow.Author.Needs.{needs}
 use mathlib.Core.Path.{sym}
 use lib.Seq.{length-take-le}
-use Rattle.session.proofs.Pages.{whole-within}
+use Rattle.page.proofs.Pages.{whole-within}
 use Rattle.bench.proofs.main.Statement.{statement}
 use Rattle.bench.proofs.main.Tie as tie
 
