@@ -4,7 +4,7 @@ use borrow.Author.Tests.{eqb-true, eqb-false}
 use mathlib.Core.Path.{_≡_, refl, sym, ap, ap₂, subst, _∙_}
 use mathlib.Core.Bool.{Bool, true, false, cond, not, _&&_}
 use mathlib.Core.List.{List, [], _∷_}
-use mathlib.Core.Logic.{_⊎_, inl, inr, ⊎-elim, _↔_}
+use mathlib.Core.Logic.{_⊎_, inl, inr, ⊎-elim}
 use native.Mathlib.Omega.{arith}
 use Prim.Native.Nat.{ℕ, _≤_, _<_}
 use lib.Dec.{T, eqb}
@@ -20,6 +20,7 @@ use Rattle.text.proofs.Numerals.{Digit, decimal-digits, hex-digits}
 use Rattle.text.proofs.Exact.{one-number, one-byte}
 use Rattle.lines.specs.Grammar.{blank, onto, parts, wordsOf, spaced, lineOf, Lawful, Reads, command, other}
 use Rattle.lines.specs.Parse.{withAddress, withValue, withStamp, commandOf, wordsIn, parsed}
+use Rattle.lines.specs.Exact.{OneReading}
 use Rattle.lines.specs.declared.Command.{Command}
 use Rattle.lines.specs.declared.Command.the-variants.{Add, Store, Load, Remove, Check, Spoil, Bad}
 use Rattle.lines.proofs.Cuts.{parts-cut, words-single, words-some, Some}
@@ -30,7 +31,7 @@ unfolding spaced
 spaced-onto x p [] = refl
 spaced-onto x p (q ∷ qs) = refl
 
-pub spaced-words : (l : List ℕ) → spaced (wordsIn l) ≡ l
+spaced-words : (l : List ℕ) → spaced (wordsIn l) ≡ l
 unfolding spaced wordsIn parts
 spaced-words [] = refl
 spaced-words (x ∷ xs) = go (eqb x blank) refl (words-some xs) (spaced-words xs)
@@ -89,7 +90,7 @@ command-words Check h = refl
 command-words (Spoil a v t) h = rw (one-number (decimal a) a .1 (h .0, refl), one-byte (hex v) v .1 (h .1, refl), one-number (decimal t) t .1 (h .2, refl))
 command-words Bad h = absurd h
 
-pub parsed-line : (c : Command) → Lawful c → parsed (lineOf c) ≡ c
+parsed-line : (c : Command) → Lawful c → parsed (lineOf c) ≡ c
 unfolding parsed
 parsed-line c h = ap commandOf (words-line c h) ∙ command-words c h
 
@@ -161,18 +162,17 @@ lawful-not-bad : (c : Command) → Lawful c → c ≡ Bad → ⊥
 unfolding Lawful
 lawful-not-bad c h e = subst Lawful e h
 
--- a line is a command exactly when it is the command's line
-pub parsed-exactly : (l : List ℕ) (c : Command) → Lawful c → (parsed l ≡ c) ↔ (lineOf c ≡ l)
-parsed-exactly l c h = (λ e. ⊎-elim (λ b. absurd (lawful-not-bad c h (sym e ∙ b))) (λ x. ap lineOf (sym e) ∙ x .1) (line-exact l), λ e. ap parsed (sym e) ∙ parsed-line c h)
-
--- and each line reads as one command, which `parsed` gives
-pub parsed-reads : (l : List ℕ) → Reads l (parsed l)
+-- a line reads as the command that `parsed` gives, and as no other
+parsed-reads : (l : List ℕ) → Reads l (parsed l)
 parsed-reads l =
     ⊎-elim
     (λ b. subst (Reads l) (sym b) (other l (λ c h e. lawful-not-bad c h (sym (parsed-line c h) ∙ ap parsed e ∙ b))))
     (λ x. subst (λ k. Reads k (parsed l)) (x .1) (command (parsed l) (x .0)))
     (line-exact l)
 
-pub reads-parsed : (l : List ℕ) (c : Command) → Reads l c → c ≡ parsed l
+reads-parsed : (l : List ℕ) (c : Command) → Reads l c → c ≡ parsed l
 reads-parsed l c (command d h) = sym (parsed-line d h)
 reads-parsed l c (other k u) = ⊎-elim (λ b. sym b) (λ x. absurd (u (parsed l) (x .0) (x .1))) (line-exact l)
+
+pub one-reading : OneReading
+one-reading l c = ((λ e. subst (Reads l) e (parsed-reads l)), λ r. sym (reads-parsed l c r))

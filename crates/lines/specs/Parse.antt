@@ -1,5 +1,4 @@
--- The command that a line is, as a function of the line. There is nothing to believe here: proofs/Exact.antt shows that it is the one function which gives
--- each line a command that the line reads as, in the sense of Grammar.antt.
+-- The command that a line is, as a function of the line. There is nothing to believe here: Exact.antt states that it is the line's reading by Grammar.antt.
 -- Assumes nothing.
 use mathlib.Core.Bool.{cond}
 use mathlib.Core.List.{List, [], _∷_}
