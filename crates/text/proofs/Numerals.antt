@@ -10,7 +10,8 @@ use Prim.Native.Nat.{ℕ, zero, suc, _+_, _-_, _*_, _/_, _%_, _≤_, _<_}
 use lib.Dec.{ltb, eqb}
 use lib.ListN.{length, getD, length-append, List·getD-append}
 use Rattle.text.specs.Text.{decimalUp, decimal, glyph, hex}
-use Rattle.text.specs.Read.{same, digitIn, decimalIn, hexIn}
+use Rattle.text.specs.Read.{same, decimalIn, hexIn}
+use Rattle.text.specs.Digits.{digitIn}
 use Rattle.text.specs.declared.Number.the-variants.{Of, NoNumber}
 use Rattle.text.specs.declared.Byte.the-variants.{Is, NoByte}
 use Rattle.text.proofs.Each.{Each, each-append}

@@ -7,7 +7,8 @@ use Prim.Native.Nat.{ℕ, zero, suc, _+_, _-_, _*_, _≤_, _<_}
 use lib.ListN.{length, getD, take, drop, take-append-drop}
 use lib.Seq.{take-suc, take-all}
 use Rattle.text.specs.Text.{decimal}
-use Rattle.text.specs.Read.{digitIn, decimalIn}
+use Rattle.text.specs.Read.{decimalIn}
+use Rattle.text.specs.Digits.{digitIn}
 use Rattle.text.specs.declared.Number.the-variants.{Of, NoNumber}
 use Rattle.text.proofs.Each.{each-at}
 use Rattle.text.proofs.Numerals.{Digit, Leads, decimal-small, decimal-more, decimal-prefix, decimal-digits, decimal-leads, decimal-is, decimal-none, digit-low, digit-glyph-low}

@@ -4,7 +4,7 @@ use mathlib.Core.Bool.{Bool, true, false, cond, _&&_}
 use mathlib.Core.List.{List, [], _∷_}
 use Prim.Native.Nat.{ℕ, zero, suc}
 use lib.Dec.{eqb}
-use Rattle.text.specs.Text.{decimal, glyph, hex}
+use Rattle.text.specs.Text.{decimal, hex}
 use Rattle.text.specs.declared.Number.{Number}
 use Rattle.text.specs.declared.Number.the-variants.{Of, NoNumber}
 use Rattle.text.specs.declared.Byte.{Byte}
@@ -25,10 +25,6 @@ seek test (suc k) some none = cond (test k) (some k) (seek test k some none)
 -- the number that a word writes
 unfoldable pub decimalIn : List ℕ → Number
 decimalIn w = seek (λ n. same (decimal n) w) 65536 Of NoNumber
-
--- the digit that a byte is, or 16
-unfoldable pub digitIn : ℕ → ℕ
-digitIn b = seek (λ d. eqb (glyph d) b) 16 (λ d. d) 16
 
 -- the byte that a word writes
 unfoldable pub hexIn : List ℕ → Byte

@@ -1,6 +1,7 @@
 // Words, numbers and bytes as text, in ASCII: the number or the byte that a word writes.
 ghost use mathlib.Core.Path.{_≡_};
-ghost use Rattle.text.specs.Read.{digitIn, decimalIn, hexIn};
+ghost use Rattle.text.specs.Read.{decimalIn, hexIn};
+ghost use Rattle.text.specs.Digits.{digitIn};
 
 // An address or a stamp that a word is.
 pub enum Number {
