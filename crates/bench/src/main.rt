@@ -1,5 +1,5 @@
 // The bench program: runs the session on standard input and prints what it says.
-// All that matters is in `session`: this reads one byte more than a session may have, lends a buffer that holds whatever a session prints, and writes it out.
+// All that matters is in `session`: this reads one byte more than a session may have, lends the buffer that holds whatever a session prints, and writes that out.
 use libc::STDIN_FILENO;
 use libc::STDOUT_FILENO;
 

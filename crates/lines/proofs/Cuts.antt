@@ -9,10 +9,11 @@ use Prim.Native.Nat.{ℕ, suc, _+_, _-_, _≤_, _<_}
 use lib.Dec.{eqb}
 use lib.ListN.{length, getD, take, drop, length-drop, drop-of-length-le}
 use lib.Seq.{drop-cons, take-all}
+use Rattle.text.specs.Read.{decimalIn, hexIn}
+use Rattle.text.proofs.Each.{Each, Lacks}
 use Rattle.lines.specs.Grammar.{newline, blank, onto, parts, linesIn}
-use Rattle.lines.specs.Parse.{before, decimalIn, hexIn, withAddress, withValue, withStamp, commandOf, wordsIn}
+use Rattle.lines.specs.Parse.{before, withAddress, withValue, withStamp, commandOf, wordsIn}
 use Rattle.lines.specs.declared.Command.the-variants.{Bad}
-use Rattle.lines.proofs.Each.{Each, Lacks}
 
 -- the bytes before the first `end`, from i on
 pub before-stop : (end : ℕ) (s : List ℕ) (i : ℕ) → i < length s → getD s i 0 ≡ end → length (before end (drop i s)) ≡ 0

@@ -4,23 +4,26 @@ use borrow.Author.Tests.{eqb-true, eqb-false}
 use mathlib.Core.Path.{_≡_, refl, sym, ap, ap₂, subst, _∙_}
 use mathlib.Core.Bool.{Bool, true, false, cond, not, _&&_}
 use mathlib.Core.List.{List, [], _∷_}
-use mathlib.Core.Logic.{_⊎_, inl, inr, ⊎-elim, _↔_}
+use mathlib.Core.Logic.{_⊎_, inl, inr, ⊎-elim}
 use native.Mathlib.Omega.{arith}
 use Prim.Native.Nat.{ℕ, _≤_, _<_}
 use lib.Dec.{T, eqb}
-use Rattle.lines.specs.Text.{ascii, decimal, hex}
+use Rattle.text.specs.Text.{ascii, decimal, hex}
+use Rattle.text.specs.Read.{same, decimalIn, hexIn}
+use Rattle.text.specs.declared.Number.{Number}
+use Rattle.text.specs.declared.Number.the-variants.{Of, NoNumber}
+use Rattle.text.specs.declared.Byte.{Byte}
+use Rattle.text.specs.declared.Byte.the-variants.{Is, NoByte}
+use Rattle.text.proofs.Each.{Each, Lacks, each-more}
+use Rattle.text.proofs.Seeks.{same-eq}
+use Rattle.text.proofs.Numerals.{Digit, decimal-digits, hex-digits}
+use Rattle.text.proofs.Exact.{one-number, one-byte}
 use Rattle.lines.specs.Grammar.{blank, onto, parts, wordsOf, spaced, lineOf, Lawful, Reads, command, other}
-use Rattle.lines.specs.Parse.{same, decimalIn, hexIn, withAddress, withValue, withStamp, commandOf, wordsIn, parsed}
+use Rattle.lines.specs.Parse.{withAddress, withValue, withStamp, commandOf, wordsIn, parsed}
+use Rattle.lines.specs.Exact.{OneReading}
 use Rattle.lines.specs.declared.Command.{Command}
 use Rattle.lines.specs.declared.Command.the-variants.{Add, Store, Load, Remove, Check, Spoil, Bad}
-use Rattle.lines.specs.declared.Number.{Number}
-use Rattle.lines.specs.declared.Number.the-variants.{Of, NoNumber}
-use Rattle.lines.specs.declared.Byte.{Byte}
-use Rattle.lines.specs.declared.Byte.the-variants.{Is, NoByte}
-use Rattle.lines.proofs.Each.{Each, Lacks, each-more}
 use Rattle.lines.proofs.Cuts.{parts-cut, words-single, words-some, Some}
-use Rattle.lines.proofs.Seeks.{same-eq, seek-finds, Found}
-use Rattle.lines.proofs.Numerals.{Digit, decimal-digits, decimal-is, hex-digits, hex-is}
 
 -- a line's words make the line again
 spaced-onto : (x : ℕ) (p : List ℕ) (ps : List (List ℕ)) → spaced (onto x (p ∷ ps)) ≡ x ∷ spaced (p ∷ ps)
@@ -28,7 +31,7 @@ unfolding spaced
 spaced-onto x p [] = refl
 spaced-onto x p (q ∷ qs) = refl
 
-pub spaced-words : (l : List ℕ) → spaced (wordsIn l) ≡ l
+spaced-words : (l : List ℕ) → spaced (wordsIn l) ≡ l
 unfolding spaced wordsIn parts
 spaced-words [] = refl
 spaced-words (x ∷ xs) = go (eqb x blank) refl (words-some xs) (spaced-words xs)
@@ -79,15 +82,15 @@ words-line Bad h = absurd h
 
 command-words : (c : Command) → Lawful c → commandOf (wordsOf c) ≡ c
 unfolding commandOf wordsOf Lawful same
-command-words (Add a v) h = rw (decimal-is (decimal a) a (h .0) refl, hex-is (hex v) v (h .1) refl)
-command-words (Store a v) h = rw (decimal-is (decimal a) a (h .0) refl, hex-is (hex v) v (h .1) refl)
-command-words (Load a) h = rw (decimal-is (decimal a) a h refl)
-command-words (Remove a) h = rw (decimal-is (decimal a) a h refl)
+command-words (Add a v) h = rw (one-number (decimal a) a .1 (h .0, refl), one-byte (hex v) v .1 (h .1, refl))
+command-words (Store a v) h = rw (one-number (decimal a) a .1 (h .0, refl), one-byte (hex v) v .1 (h .1, refl))
+command-words (Load a) h = rw (one-number (decimal a) a .1 (h, refl))
+command-words (Remove a) h = rw (one-number (decimal a) a .1 (h, refl))
 command-words Check h = refl
-command-words (Spoil a v t) h = rw (decimal-is (decimal a) a (h .0) refl, hex-is (hex v) v (h .1) refl, decimal-is (decimal t) t (h .2) refl)
+command-words (Spoil a v t) h = rw (one-number (decimal a) a .1 (h .0, refl), one-byte (hex v) v .1 (h .1, refl), one-number (decimal t) t .1 (h .2, refl))
 command-words Bad h = absurd h
 
-pub parsed-line : (c : Command) → Lawful c → parsed (lineOf c) ≡ c
+parsed-line : (c : Command) → Lawful c → parsed (lineOf c) ≡ c
 unfolding parsed
 parsed-line c h = ap commandOf (words-line c h) ∙ command-words c h
 
@@ -104,25 +107,17 @@ abbrev NumberIs : List ℕ → Number → Type 0
 NumberIs w (Of n) = (n < 65536) × (decimal n ≡ w)
 NumberIs w NoNumber = Unit {0}
 
-number-is : (w : List ℕ) → NumberIs w (decimalIn w)
-unfolding decimalIn
-number-is w = go (seek-finds (λ n. same (decimal n) w) Of NoNumber 65536)
-  where
-    go : (decimalIn w ≡ NoNumber) ⊎ Found (λ n. same (decimal n) w) Of NoNumber 65536 → NumberIs w (decimalIn w)
-    go (inl e) = rw e tt
-    go (inr f) = rw (f .found) (f .below, same-eq (decimal (f .at)) w (f .passes))
+number-is : (w : List ℕ) (x : Number) → decimalIn w ≡ x → NumberIs w x
+number-is w (Of n) e = one-number w n .0 e
+number-is w NoNumber e = tt
 
 abbrev ByteIs : List ℕ → Byte → Type 0
 ByteIs w (Is b) = (b < 256) × (hex b ≡ w)
 ByteIs w NoByte = Unit {0}
 
-byte-is : (w : List ℕ) → ByteIs w (hexIn w)
-unfolding hexIn
-byte-is w = go (seek-finds (λ b. same (hex b) w) Is NoByte 256)
-  where
-    go : (hexIn w ≡ NoByte) ⊎ Found (λ b. same (hex b) w) Is NoByte 256 → ByteIs w (hexIn w)
-    go (inl e) = rw e tt
-    go (inr f) = rw (f .found) (f .below, same-eq (hex (f .at)) w (f .passes))
+byte-is : (w : List ℕ) (x : Byte) → hexIn w ≡ x → ByteIs w x
+byte-is w (Is b) e = one-byte w b .0 e
+byte-is w NoByte e = tt
 
 address-exact : (n a : List ℕ) (x : Number) → NumberIs a x → Exact (n ∷ a ∷ []) (withAddress n x)
 unfolding Lawful wordsOf
@@ -153,9 +148,9 @@ command-exact : (ws : List (List ℕ)) → Exact ws (commandOf ws)
 unfolding commandOf Lawful wordsOf
 command-exact [] = inl refl
 command-exact (n ∷ []) = either _ (same n (ascii "check")) _ _ (λ e. inr (tt, rw (same-eq n (ascii "check") e))) (λ _. inl refl)
-command-exact (n ∷ a ∷ []) = address-exact n a (decimalIn a) (number-is a)
-command-exact (n ∷ a ∷ v ∷ []) = value-exact n a v (decimalIn a) (hexIn v) (number-is a) (byte-is v)
-command-exact (n ∷ a ∷ v ∷ t ∷ []) = stamp-exact n a v t (decimalIn a) (hexIn v) (decimalIn t) (number-is a) (byte-is v) (number-is t)
+command-exact (n ∷ a ∷ []) = address-exact n a (decimalIn a) (number-is a _ refl)
+command-exact (n ∷ a ∷ v ∷ []) = value-exact n a v (decimalIn a) (hexIn v) (number-is a _ refl) (byte-is v _ refl)
+command-exact (n ∷ a ∷ v ∷ t ∷ []) = stamp-exact n a v t (decimalIn a) (hexIn v) (decimalIn t) (number-is a _ refl) (byte-is v _ refl) (number-is t _ refl)
 command-exact (n ∷ a ∷ v ∷ t ∷ x ∷ ws) = inl refl
 
 -- a line is bad, or the line of its command
@@ -167,18 +162,17 @@ lawful-not-bad : (c : Command) → Lawful c → c ≡ Bad → ⊥
 unfolding Lawful
 lawful-not-bad c h e = subst Lawful e h
 
--- a line is a command exactly when it is the command's line
-pub parsed-exactly : (l : List ℕ) (c : Command) → Lawful c → (parsed l ≡ c) ↔ (lineOf c ≡ l)
-parsed-exactly l c h = (λ e. ⊎-elim (λ b. absurd (lawful-not-bad c h (sym e ∙ b))) (λ x. ap lineOf (sym e) ∙ x .1) (line-exact l), λ e. ap parsed (sym e) ∙ parsed-line c h)
-
--- and each line reads as one command, which `parsed` gives
-pub parsed-reads : (l : List ℕ) → Reads l (parsed l)
+-- a line reads as the command that `parsed` gives, and as no other
+parsed-reads : (l : List ℕ) → Reads l (parsed l)
 parsed-reads l =
     ⊎-elim
     (λ b. subst (Reads l) (sym b) (other l (λ c h e. lawful-not-bad c h (sym (parsed-line c h) ∙ ap parsed e ∙ b))))
     (λ x. subst (λ k. Reads k (parsed l)) (x .1) (command (parsed l) (x .0)))
     (line-exact l)
 
-pub reads-parsed : (l : List ℕ) (c : Command) → Reads l c → c ≡ parsed l
+reads-parsed : (l : List ℕ) (c : Command) → Reads l c → c ≡ parsed l
 reads-parsed l c (command d h) = sym (parsed-line d h)
 reads-parsed l c (other k u) = ⊎-elim (λ b. sym b) (λ x. absurd (u (parsed l) (x .0) (x .1))) (line-exact l)
+
+pub one-reading : OneReading
+one-reading l c = ((λ e. subst (Reads l) e (parsed-reads l)), λ r. sym (reads-parsed l c r))

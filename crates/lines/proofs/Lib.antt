@@ -1,6 +1,3 @@
-pub mod Each
+pub mod Same
 pub mod Cuts
-pub mod Seeks
-pub mod Numerals
-pub mod Words
 pub mod Exact

@@ -1,3 +1,3 @@
-pub mod Text
 pub mod Grammar
 pub mod Parse
+pub mod Exact

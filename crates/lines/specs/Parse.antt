@@ -1,45 +1,23 @@
--- The command that a line is, as a function of the line. There is nothing to believe here: proofs/Exact.antt shows that it is the one function which gives
--- each line a command that the line reads as, in the sense of Grammar.antt.
+-- The command that a line is, as a function of the line. There is nothing to believe here: Exact.antt states that it is the line's reading by Grammar.antt.
 -- Assumes nothing.
-use mathlib.Core.Bool.{Bool, true, false, cond, _&&_}
+use mathlib.Core.Bool.{cond}
 use mathlib.Core.List.{List, [], _∷_}
-use Prim.Native.Nat.{ℕ, zero, suc}
+use Prim.Native.Nat.{ℕ}
 use lib.Dec.{eqb}
-use Rattle.lines.specs.Text.{ascii, decimal, glyph, hex}
+use Rattle.text.specs.Text.{ascii}
+use Rattle.text.specs.Read.{same, decimalIn, hexIn}
+use Rattle.text.specs.declared.Number.{Number}
+use Rattle.text.specs.declared.Number.the-variants.{Of, NoNumber}
+use Rattle.text.specs.declared.Byte.{Byte}
+use Rattle.text.specs.declared.Byte.the-variants.{Is, NoByte}
 use Rattle.lines.specs.Grammar.{blank, parts}
 use Rattle.lines.specs.declared.Command.{Command}
 use Rattle.lines.specs.declared.Command.the-variants.{Add, Store, Load, Remove, Check, Spoil, Bad}
-use Rattle.lines.specs.declared.Number.{Number}
-use Rattle.lines.specs.declared.Number.the-variants.{Of, NoNumber}
-use Rattle.lines.specs.declared.Byte.{Byte}
-use Rattle.lines.specs.declared.Byte.the-variants.{Is, NoByte}
 
 -- what stands before the first `end`
 unfoldable pub before : ℕ → List ℕ → List ℕ
 before end [] = []
 before end (x ∷ xs) = cond (eqb x end) [] (x ∷ before end xs)
-
--- are two words the same
-unfoldable pub same : List ℕ → List ℕ → Bool
-same [] [] = true
-same [] (y ∷ ys) = false
-same (x ∷ xs) [] = false
-same (x ∷ xs) (y ∷ ys) = eqb x y && same xs ys
-
--- the number below k that passes a test, handed to `some`; `none` where no number does
-unfoldable pub seek : {A : Type 0} → (ℕ → Bool) → ℕ → (ℕ → A) → A → A
-seek test zero some none = none
-seek test (suc k) some none = cond (test k) (some k) (seek test k some none)
-
--- the number that a word writes
-unfoldable pub decimalIn : List ℕ → Number
-decimalIn w = seek (λ n. same (decimal n) w) 65536 Of NoNumber
-
-unfoldable pub digitIn : ℕ → ℕ
-digitIn b = seek (λ d. eqb (glyph d) b) 16 (λ d. d) 16
-
-unfoldable pub hexIn : List ℕ → Byte
-hexIn w = seek (λ b. same (hex b) w) 256 Is NoByte
 
 -- a name and what stands after it
 abbrev pub withAddress : List ℕ → Number → Command

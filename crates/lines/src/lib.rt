@@ -1,9 +1,12 @@
 // The bench program's lines: where a line or a word ends, and the command that a line is.
+use text::Byte;
+use text::Number;
 ghost use mathlib.Core.Path.{_≡_};
 ghost use mathlib.Core.List.{[], _∷_};
 ghost use Prim.Native.Nat.{_≤_};
 ghost use lib.ListN.{length};
-ghost use Rattle.lines.specs.Parse.{before, same, digitIn, decimalIn, hexIn, withAddress, withValue, withStamp, commandOf, wordsIn, parsed};
+ghost use Rattle.text.specs.Read.{same};
+ghost use Rattle.lines.specs.Parse.{before, withAddress, withValue, withStamp, commandOf, wordsIn, parsed};
 
 pub const NEWLINE: u8 = 10;
 
@@ -18,18 +21,6 @@ pub enum Command {
     Check,
     Spoil(u16, u8, u16),
     Bad,
-}
-
-// An address or a stamp that a word is.
-pub enum Number {
-    Of(u16),
-    NoNumber,
-}
-
-// A value's byte that a word is.
-pub enum Byte {
-    Is(u8),
-    NoByte,
 }
 
 // How many bytes stand before the first `end`: all, where there is none.
@@ -61,72 +52,6 @@ fn equal(a: &[u8], b: &[u8]) -> bool
         i += 1;
     }
     true
-}
-
-// The hex digit that a byte is, or 16.
-fn digit(b: u8) -> u8
-    ensures { λ r. ⌜ r ≡ digitIn b ⌝ }
-{
-    if b < b'0' {
-        return 16;
-    }
-    if b <= b'9' {
-        return b - b'0';
-    }
-    if b < b'a' {
-        return 16;
-    }
-    if b <= b'f' {
-        return b - b'a' + 10;
-    }
-    16
-}
-
-// The number from 0 to 65,535 that a word writes in decimal, without leading zeros.
-fn decimal(word: &[u8]) -> Number
-    ensures { λ r. ⌜ r ≡ decimalIn (now (word .entry)) ⌝ }
-{
-    if word.len() == 0 {
-        return Number::NoNumber;
-    }
-    if word[0] == b'0' {
-        if word.len() == 1 {
-            return Number::Of(0);
-        }
-        return Number::NoNumber;
-    }
-    let mut n: u32 = 0;
-    let mut i: usize = 0;
-    while i < word.len() {
-        let d = digit(word[i]);
-        if d > 9 {
-            return Number::NoNumber;
-        }
-        n = 10 * n + d as u32;
-        if n > 65535 {
-            return Number::NoNumber;
-        }
-        i += 1;
-    }
-    Number::Of(n as u16)
-}
-
-// The byte that a word writes in two lower-case hex digits.
-fn hex(word: &[u8]) -> Byte
-    ensures { λ r. ⌜ r ≡ hexIn (now (word .entry)) ⌝ }
-{
-    if word.len() != 2 {
-        return Byte::NoByte;
-    }
-    let high = digit(word[0]);
-    if high > 15 {
-        return Byte::NoByte;
-    }
-    let low = digit(word[1]);
-    if low > 15 {
-        return Byte::NoByte;
-    }
-    Byte::Is(16 * high + low)
 }
 
 // The command of one word.
@@ -210,7 +135,7 @@ fn second(name: &[u8], rest: &[u8]) -> Command
 {
     let e = find(rest, BLANK);
     if e == rest.len() {
-        return with_address(name, decimal(rest));
+        return with_address(name, text::decimal(rest));
     }
     third(name, &rest[..e], &rest[e + 1..])
 }
@@ -221,7 +146,7 @@ fn third(name: &[u8], address: &[u8], rest: &[u8]) -> Command
 {
     let e = find(rest, BLANK);
     if e == rest.len() {
-        return with_value(name, decimal(address), hex(rest));
+        return with_value(name, text::decimal(address), text::hex(rest));
     }
     fourth(name, address, &rest[..e], &rest[e + 1..])
 }
@@ -232,7 +157,12 @@ fn fourth(name: &[u8], address: &[u8], value: &[u8], rest: &[u8]) -> Command
 {
     let e = find(rest, BLANK);
     if e == rest.len() {
-        return with_stamp(name, decimal(address), hex(value), decimal(rest));
+        return with_stamp(
+            name,
+            text::decimal(address),
+            text::hex(value),
+            text::decimal(rest),
+        );
     }
     Command::Bad
 }

@@ -1,4 +1,2 @@
-pub mod Pages
-pub mod Spoils
-pub mod Says
 pub mod Turns
+pub mod Fits

@@ -1,2 +1,2 @@
 pub mod Session
-pub mod Page
+pub mod Fits

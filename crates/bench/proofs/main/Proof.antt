@@ -2,15 +2,15 @@
 use borrow.Author.Needs.{needs}
 use mathlib.Core.Path.{sym}
 use lib.Seq.{length-take-le}
-use Rattle.session.proofs.Pages.{page-within}
+use Rattle.page.proofs.Pages.{whole-within}
 use Rattle.bench.proofs.main.Statement.{statement}
 use Rattle.bench.proofs.main.Tie as tie
 
 array-share-prefix-out : tie.Need-array-share-prefix-out
-array-share-prefix-out c = page-within _ _ _ _ (c .before .run .ensures)
+array-share-prefix-out c = whole-within _ _ _ _ (c .run .ensures)
 
 slice-aggregate-write-all : tie.Need-slice-aggregate-write-all
-slice-aggregate-write-all c = sym (length-take-le _ _ (page-within _ _ _ _ (c .before .before .run .ensures)))
+slice-aggregate-write-all c = sym (length-take-le _ _ (whole-within _ _ _ _ (c .before .run .ensures)))
 
 pub main-spec : {M : Type 1} → statement M
 main-spec =
@@ -19,7 +19,6 @@ main-spec =
     (λ c. search needs)
     (λ c κs. search needs)
     (λ c κs. search needs)
-    (λ c. search needs)
     (λ c. search needs)
     (λ c. search needs)
     (λ c κs. search needs)

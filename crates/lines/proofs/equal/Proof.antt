@@ -4,8 +4,8 @@ use mathlib.Core.Path.{_≡_, refl, sym, _∙_}
 use native.Mathlib.Omega.{arith}
 use Prim.Native.Nat.{_-_, _≤_}
 use lib.ListN.{length, drop}
-use Rattle.lines.specs.Parse.{same}
-use Rattle.lines.proofs.Seeks.{same-unlike, same-differs, same-agrees, same-end}
+use Rattle.text.specs.Read.{same}
+use Rattle.lines.proofs.Same.{same-unlike, same-differs, same-agrees, same-end}
 use Rattle.lines.proofs.equal.Statement.{statement}
 use Rattle.lines.proofs.equal.Tie as tie
 

@@ -16,7 +16,9 @@ slice-aggregate-second c = sym (length-take-le _ _ (c .before .before .find .ens
 
 returns-2 : tie.Need-returns-2
 unfolding parsed
-returns-2 c = c .second .ensures ∙ ap commandOf (sym (words-more _ _ (c .before .before .before .before .find .ensures .0) (c .before .before .before .if1 .left)))
+returns-2 c =
+    let e = c .before .before .before in
+    c .second .ensures ∙ ap commandOf (sym (words-more _ _ (e .before .find .ensures .0) (e .if1 .left)))
 
 pub parse-spec : {M : Type 1} → statement M
 parse-spec =

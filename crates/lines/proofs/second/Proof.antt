@@ -9,13 +9,18 @@ use Rattle.lines.proofs.second.Statement.{statement}
 use Rattle.lines.proofs.second.Tie as tie
 
 returns : tie.Need-returns
-returns c = c .with-address .ensures ∙ rw (c .before .decimal .ensures) (sym (last-second _ _ (sym (c .before .before .if1 .taken) ∙ c .before .before .before .find .ensures .0)))
+returns c =
+    let e = c .before .before in
+    c .with-address .ensures ∙ rw (c .before .decimal .ensures) (sym (last-second _ _ (sym (e .if1 .taken) ∙ e .before .find .ensures .0)))
 
 slice-aggregate-third : tie.Need-slice-aggregate-third
 slice-aggregate-third c = sym (length-take-le _ _ (c .before .before .find .ensures .1))
 
 returns-2 : tie.Need-returns-2
-returns-2 c = let a = c .before .before .before .before .before .before .before .args in c .third .ensures ∙ ap (λ ws. commandOf (a .name .now ∷ ws)) (sym (words-more _ _ (c .before .before .before .before .find .ensures .0) (c .before .before .before .if1 .left)))
+returns-2 c =
+    let e = c .before .before .before in
+    let a = c .before .before .before .before .before .before .before .args in
+    c .third .ensures ∙ ap (λ ws. commandOf (a .name .now ∷ ws)) (sym (words-more _ _ (e .before .find .ensures .0) (e .if1 .left)))
 
 pub second-spec : {M : Type 1} → statement M
 second-spec =

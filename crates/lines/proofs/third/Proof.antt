@@ -9,13 +9,18 @@ use Rattle.lines.proofs.third.Statement.{statement}
 use Rattle.lines.proofs.third.Tie as tie
 
 returns : tie.Need-returns
-returns c = c .with-value .ensures ∙ rw (c .before .before .decimal .ensures, c .before .hex .ensures) (sym (last-third _ _ _ (sym (c .before .before .before .if1 .taken) ∙ c .before .before .before .before .find .ensures .0)))
+returns c =
+    let e = c .before .before .before in
+    c .with-value .ensures ∙ rw (c .before .before .decimal .ensures, c .before .hex .ensures) (sym (last-third _ _ _ (sym (e .if1 .taken) ∙ e .before .find .ensures .0)))
 
 slice-aggregate-fourth : tie.Need-slice-aggregate-fourth
 slice-aggregate-fourth c = sym (length-take-le _ _ (c .before .before .find .ensures .1))
 
 returns-2 : tie.Need-returns-2
-returns-2 c = let a = c .before .before .before .before .before .before .before .before .args in c .fourth .ensures ∙ ap (λ ws. commandOf (a .name .now ∷ a .address .now ∷ ws)) (sym (words-more _ _ (c .before .before .before .before .find .ensures .0) (c .before .before .before .if1 .left)))
+returns-2 c =
+    let e = c .before .before .before in
+    let a = c .before .before .before .before .before .before .before .before .args in
+    c .fourth .ensures ∙ ap (λ ws. commandOf (a .name .now ∷ a .address .now ∷ ws)) (sym (words-more _ _ (e .before .find .ensures .0) (e .if1 .left)))
 
 pub third-spec : {M : Type 1} → statement M
 third-spec =

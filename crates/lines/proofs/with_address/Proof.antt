@@ -8,10 +8,14 @@ returns-2 : tie.Need-returns-2
 returns-2 c = rw (c .before .before .before .before .address .given .1, sym (c .before .equal .ensures) ∙ c .if1 .taken)
 
 returns-3 : tie.Need-returns-3
-returns-3 c = rw (c .before .before .before .before .before .before .before .address .given .1, sym (c .before .before .before .before .equal .ensures) ∙ c .before .before .before .if1 .left, sym (c .before .equal2 .ensures) ∙ c .if2 .taken)
+returns-3 c =
+    let e = c .before .before .before in
+    rw (c .before .before .before .before .before .before .before .address .given .1, sym (e .before .equal .ensures) ∙ e .if1 .left, sym (c .before .equal2 .ensures) ∙ c .if2 .taken)
 
 returns-4 : tie.Need-returns-4
-returns-4 c = rw (c .before .before .before .before .before .before .before .address .given .1, sym (c .before .before .before .before .equal .ensures) ∙ c .before .before .before .if1 .left, sym (c .before .equal2 .ensures) ∙ c .if2 .left)
+returns-4 c =
+    let e = c .before .before .before in
+    rw (c .before .before .before .before .before .before .before .address .given .1, sym (e .before .equal .ensures) ∙ e .if1 .left, sym (c .before .equal2 .ensures) ∙ c .if2 .left)
 
 pub with-address-spec : {M : Type 1} → statement M
 with-address-spec =

@@ -5,13 +5,21 @@ use Rattle.lines.proofs.with_value.Statement.{statement}
 use Rattle.lines.proofs.with_value.Tie as tie
 
 returns-3 : tie.Need-returns-3
-returns-3 c = rw (c .before .before .before .before .before .before .before .address .given .1, c .before .before .before .before .value .given .1, sym (c .before .equal .ensures) ∙ c .if1 .taken)
+returns-3 c =
+    let v = c .before .before .before .before in
+    rw (v .before .before .before .address .given .1, v .value .given .1, sym (c .before .equal .ensures) ∙ c .if1 .taken)
 
 returns-4 : tie.Need-returns-4
-returns-4 c = rw (c .before .before .before .before .before .before .before .before .before .before .address .given .1, c .before .before .before .before .before .before .before .value .given .1, sym (c .before .before .before .before .equal .ensures) ∙ c .before .before .before .if1 .left, sym (c .before .equal2 .ensures) ∙ c .if2 .taken)
+returns-4 c =
+    let e = c .before .before .before in
+    let v = c .before .before .before .before .before .before .before in
+    rw (v .before .before .before .address .given .1, v .value .given .1, sym (e .before .equal .ensures) ∙ e .if1 .left, sym (c .before .equal2 .ensures) ∙ c .if2 .taken)
 
 returns-5 : tie.Need-returns-5
-returns-5 c = rw (c .before .before .before .before .before .before .before .before .before .before .address .given .1, c .before .before .before .before .before .before .before .value .given .1, sym (c .before .before .before .before .equal .ensures) ∙ c .before .before .before .if1 .left, sym (c .before .equal2 .ensures) ∙ c .if2 .left)
+returns-5 c =
+    let e = c .before .before .before in
+    let v = c .before .before .before .before .before .before .before in
+    rw (v .before .before .before .address .given .1, v .value .given .1, sym (e .before .equal .ensures) ∙ e .if1 .left, sym (c .before .equal2 .ensures) ∙ c .if2 .left)
 
 pub with-value-spec : {M : Type 1} → statement M
 with-value-spec =

@@ -1,0 +1,69 @@
+// The bench program's answers: what a line prints.
+ghost use mathlib.Core.Path.{_≡_};
+ghost use mathlib.Core.List.{[], _∷_, _++_};
+ghost use Rattle.lines.specs.Grammar.{blank};
+ghost use Rattle.page.specs.Page.{page, write};
+ghost use Rattle.answers.specs.Answers.{nameOf, said};
+ghost use Rattle.answers.specs.declared.Answer.the-variants.{Numbered, Loaded};
+
+// The name of a command.
+pub enum Name {
+    Add,
+    Store,
+    Load,
+    Remove,
+    Check,
+    Spoil,
+}
+
+// What a line prints: its command and number; a load that worked, with its byte; a check's verdict; or that it is bad.
+pub enum Answer {
+    Numbered(Name, u8),
+    Loaded(u8),
+    Accepted,
+    Rejected,
+    Bad,
+}
+
+// Writes the line that an answer is.
+pub fn say(out: &mut [u8], at: usize, answer: Answer) -> usize
+    ensures { λ r. ⌜ page (now (out .exit)) r ≡ write (page (now (out .entry)) at) (said answer) ⌝ }
+{
+    match answer {
+        Answer::Numbered(name, n) => return say_number(out, at, name, n),
+        Answer::Loaded(b) => return say_byte(out, at, b),
+        Answer::Accepted => return page::put(out, at, b"check accept\n"),
+        Answer::Rejected => return page::put(out, at, b"check reject\n"),
+        Answer::Bad => return page::put(out, at, b"bad\n"),
+    }
+}
+
+fn say_number(out: &mut [u8], at: usize, name: Name, n: u8) -> usize
+    ensures { λ r. ⌜ page (now (out .exit)) r ≡ write (page (now (out .entry)) at) (said (Numbered name n)) ⌝ }
+{
+    let named = put_name(out, at, name);
+    let told = page::put_decimal(out, named, n);
+    page::put(out, told, b"\n")
+}
+
+fn say_byte(out: &mut [u8], at: usize, b: u8) -> usize
+    ensures { λ r. ⌜ page (now (out .exit)) r ≡ write (page (now (out .entry)) at) (said (Loaded b)) ⌝ }
+{
+    let named = page::put(out, at, b"load 0 ");
+    let told = page::put_hex(out, named, b);
+    page::put(out, told, b"\n")
+}
+
+// A name, and the blank after it.
+fn put_name(out: &mut [u8], at: usize, name: Name) -> usize
+    ensures { λ r. ⌜ page (now (out .exit)) r ≡ write (page (now (out .entry)) at) (nameOf name ++ (blank ∷ [])) ⌝ }
+{
+    match name {
+        Name::Add => return page::put(out, at, b"add "),
+        Name::Store => return page::put(out, at, b"store "),
+        Name::Load => return page::put(out, at, b"load "),
+        Name::Remove => return page::put(out, at, b"remove "),
+        Name::Check => return page::put(out, at, b"check "),
+        Name::Spoil => return page::put(out, at, b"spoil "),
+    }
+}

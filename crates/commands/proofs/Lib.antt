@@ -1,0 +1,3 @@
+pub mod Spoils
+pub mod Answers
+pub mod Short

@@ -1,0 +1,5 @@
+pub mod Each
+pub mod Seeks
+pub mod Numerals
+pub mod Words
+pub mod Exact

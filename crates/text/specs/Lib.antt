@@ -1,0 +1,4 @@
+pub mod Text
+pub mod Read
+pub mod Exact
+pub mod Digits
