@@ -1,12 +1,12 @@
 -- Every number that a command answers is one digit: the rows' numbers are. Assumes nothing.
 use mathlib.Core.Path.{_≡_, refl}
-use mathlib.Core.Bool.{Bool, true, false, _&&_}
+use mathlib.Core.Bool.{Bool, true, false, cond, _&&_}
 use mathlib.Core.List.{List, [], _∷_}
 use Prim.Native.Nat.{ℕ, zero, suc, _<_}
 use native.Mathlib.Omega.{arith}
 use borrow.Author.Tests.{ltb-true}
 use lib.Dec.{T, ltb}
-use Rattle.refusal.specs.Refusal.{Row, choose, first}
+use Rattle.refusal.specs.Refusal.{Row, first}
 use Rattle.state.specs.Sizes.{width, addresses}
 use Rattle.state.specs.Step.{Step}
 use Rattle.state.specs.Moves.{addressRow, addRows, useRows, removeRows, call, added, addOf, loaded, loadOf, stored, storeOf, removed, removeOf}
@@ -29,7 +29,7 @@ unfolding small
 first-small [] t = omega arith
 first-small (r ∷ rs) t = go (r .holds) (ltb (r .number) 10) refl (first-small rs)
   where
-    go : (b c : Bool) → ltb (r .number) 10 ≡ c → (T (small rs) → first rs < 10) → choose b (r .number) (first rs) < 10
+    go : (b c : Bool) → ltb (r .number) 10 ≡ c → (T (small rs) → first rs < 10) → cond b (r .number) (first rs) < 10
     go true true e h = ltb-true (r .number) 10 e
     go false true e h = h (rw e at t)
     go b false e h = absurd (rw e at t)
@@ -47,7 +47,7 @@ check-small : (s : State) (m : List ℕ) → checkOf width tag s m .seen .number
 unfolding small checkOf checkRows acceptance rejection
 check-small s m = call-small (checkRows width s m) s m [] _ tt (go (agrees (takeBelow width tag s m addresses)))
   where
-    go : (b : Bool) → choose b (acceptance width tag s m) (rejection width tag s m) .seen .number ≡ 0
+    go : (b : Bool) → cond b (acceptance width tag s m) (rejection width tag s m) .seen .number ≡ 0
     go true = refl
     go false = refl
 

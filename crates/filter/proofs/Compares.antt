@@ -1,10 +1,9 @@
 -- The comparison's two tests decide its three answers. Assumes nothing.
 use mathlib.Core.Path.{_≡_, refl}
-use mathlib.Core.Bool.{Bool, true, false, not}
+use mathlib.Core.Bool.{Bool, true, false, cond, not}
 use mathlib.Core.Option.{none}
 use lib.Dec.{eqb, ltb}
 use borrow.Author.Tests.{eq-eqb, ne-eqb, eqb-true, eqb-false, lt-ltb, le-ltb, ltb-true, ltb-false}
-use Rattle.refusal.specs.Refusal.{choose}
 use Rattle.filter.specs.Going.{goingOf, Says, goingNumber}
 use Rattle.filter.specs.Promises.{Compared}
 use Rattle.filter.specs.declared.FilterRecord.{FilterRecord}
@@ -13,7 +12,7 @@ use Rattle.filter.specs.declared.going.Going.the-variants.{OtherMember, 
 
 -- the answer given is true
 true-answer : (held offered : FilterRecord) (s t : Bool) → eqb (held .member) (offered .member) ≡ s → ltb (offered .serial) (held .serial) ≡ t
-    → Says (choose (not s) OtherMember (choose t Back Forward)) held offered
+    → Says (cond (not s) OtherMember (cond t Back Forward)) held offered
 true-answer held offered false t e f = eqb-false _ _ e
 true-answer held offered true true e f = (eqb-true _ _ e, ltb-true _ _ f)
 true-answer held offered true false e f = (eqb-true _ _ e, ltb-false _ _ f)

@@ -1,16 +1,16 @@
 -- No row holds exactly where all is lawful: each row is the test of one field of `Lawful`. Assumes nothing.
 use mathlib.Core.Path.{_≡_, refl}
-use mathlib.Core.Bool.{Bool, true, false, not, _&&_}
+use mathlib.Core.Bool.{Bool, true, false, cond, not, _&&_}
 use Prim.Native.Nat.{ℕ, suc}
 use native.Mathlib.Omega.{arith}
 use lib.ListN.{length}
 use borrow.Author.Tests.{ne-eqb, eqb-false, le-leb, leb-true, not-false}
-use Rattle.refusal.specs.Refusal.{choose, first}
+use Rattle.refusal.specs.Refusal.{first}
 use Rattle.filter.specs.Filter.{Lawful, filterRows}
 use Rattle.filter.specs.declared.FilterRecord.{FilterRecord}
 use Rattle.filter.proofs.Past.{past-bits, bits-past}
 
-pub passed : (b : Bool) (n : ℕ) {x : ℕ} → choose b (suc n) x ≡ 0 → (b ≡ false) × (x ≡ 0)
+pub passed : (b : Bool) (n : ℕ) {x : ℕ} → cond b (suc n) x ≡ 0 → (b ≡ false) × (x ≡ 0)
 passed true n e = absurd (omega arith)
 passed false n e = (refl, e)
 

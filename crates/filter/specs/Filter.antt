@@ -1,13 +1,13 @@
 -- 01, "The filter record" and "Numbers given back": the layout, what is lawful, and what pack and unpack give.
 -- Assumes nothing.
 use mathlib.Core.Path.{_≡_}
-use mathlib.Core.Bool.{Bool, not, _&&_}
+use mathlib.Core.Bool.{Bool, cond, not, _&&_}
 use mathlib.Core.List.{List, [], _∷_}
 use Prim.Native.Nat.{ℕ, _-_, _*_, _/_, _%_, _^_, _<_, _≤_}
 use lib.ListN.{length, getD, replicate}
 use lib.Dec.{leb, eqb}
 use Rattle.octets.specs.Layout.{join, split, Fit, octets, number, bytes}
-use Rattle.refusal.specs.Refusal.{Row, when, choose, first, done, Filled, fills}
+use Rattle.refusal.specs.Refusal.{Row, when, first, done, Filled, fills}
 use Rattle.filter.specs.declared.Family.{Family}
 use Rattle.filter.specs.declared.Family.the-variants.{Ipv4, Ipv6}
 use Rattle.filter.specs.declared.Action.{Action}
@@ -31,10 +31,10 @@ actionNumber Deny = 0
 actionNumber Permit = 1
 
 abbrev pub familyOf : ℕ → Family
-familyOf n = choose (eqb n (familyNumber Ipv4)) Ipv4 Ipv6
+familyOf n = cond (eqb n (familyNumber Ipv4)) Ipv4 Ipv6
 
 abbrev pub actionOf : ℕ → Action
-actionOf n = choose (eqb n (actionNumber Deny)) Deny Permit
+actionOf n = cond (eqb n (actionNumber Deny)) Deny Permit
 
 -- the parts of a filter record in the order of the widths, its spare bits 0; and the filter record of some parts
 abbrev pub partsOf : FilterRecord → List ℕ

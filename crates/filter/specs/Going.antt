@@ -1,18 +1,17 @@
 -- 01, "Going back": of a filter record held and one offered.
 -- Assumes nothing.
 use mathlib.Core.Path.{_≡_}
-use mathlib.Core.Bool.{not}
+use mathlib.Core.Bool.{cond, not}
 use mathlib.Core.Option.{Option, none}
 use Prim.Native.Nat.{ℕ, _<_, _≤_}
 use lib.Dec.{ltb, eqb}
-use Rattle.refusal.specs.Refusal.{choose}
 use Rattle.filter.specs.declared.FilterRecord.{FilterRecord}
 use Rattle.filter.specs.declared.going.Going.{Going}
 use Rattle.filter.specs.declared.going.Going.the-variants.{OtherMember, Back, Forward}
 
 unfoldable pub goingOf : FilterRecord → FilterRecord → Going
 goingOf held offered =
-    choose (not (eqb (held .member) (offered .member))) OtherMember (choose (ltb (offered .serial) (held .serial)) Back Forward)
+    cond (not (eqb (held .member) (offered .member))) OtherMember (cond (ltb (offered .serial) (held .serial)) Back Forward)
 
 -- what each answer says
 abbrev pub Says : Going → FilterRecord → FilterRecord → Type 0

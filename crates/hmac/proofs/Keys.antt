@@ -1,5 +1,6 @@
 -- A key's block exclusive-or a pad is one block, so each hash of HMAC is finished from the hash after it. Assumes nothing.
 use mathlib.Core.Path.{_≡_, sym, ap, ap₂, _∙_}
+use mathlib.Core.Bool.{cond}
 use mathlib.Core.List.{List, _++_}
 use Prim.Native.Nat.{ℕ, _+_, _-_, _<_, _≤_}
 use native.Mathlib.Omega.{arith}
@@ -12,7 +13,6 @@ use Rattle.octets.specs.Places.{tabulate, xor}
 use Rattle.octets.proofs.Places.{tabulate-ext, tabulate-xor, xor-length}
 use Rattle.constants.specs.Constants.{H0}
 use Rattle.lent.specs.Lent.{copied}
-use Rattle.refusal.specs.Refusal.{choose}
 use Rattle.sha256.specs.Sha256.{absorbed, hashBytes, sha256, finished}
 use Rattle.sha256.proofs.Answers.{finish-short}
 use Rattle.sha256.proofs.Blocks.{sha256-append}
@@ -52,7 +52,7 @@ after-pad b text v e =
 
 -- ---- the whole, from what the calls give
 pub hash-finished : (inner outer text s d r : List ℕ) → length text ≤ 4096 → length d ≡ 32
-    → s ≡ choose (leb (length text) 8192) (finished inner 1 text) inner → d ≡ hashBytes s → r ≡ choose (leb (length d) 8192) (finished outer 1 d) outer
+    → s ≡ cond (leb (length text) 8192) (finished inner 1 text) inner → d ≡ hashBytes s → r ≡ cond (leb (length d) 8192) (finished outer 1 d) outer
     → r ≡ finished outer 1 (hashBytes (finished inner 1 text))
 hash-finished inner outer text s d r l n es ed er =
     er ∙ finish-short d _ _ (omega arith) ∙ ap (finished outer 1) (ed ∙ ap hashBytes (es ∙ finish-short text _ _ (omega arith)))

@@ -1,12 +1,12 @@
 -- RFC 2104, section 2, with H = SHA-256.
 -- Assumes nothing.
-use mathlib.Core.Bool.{_||_}
+use mathlib.Core.Bool.{cond, _||_}
 use mathlib.Core.List.{List, [], _∷_, _++_}
 use Prim.Native.Nat.{ℕ, _-_}
 use lib.Dec.{ltb}
 use lib.ListN.{length, replicate}
 use Rattle.octets.specs.Places.{xor}
-use Rattle.refusal.specs.Refusal.{Row, when, choose, Filled, fills}
+use Rattle.refusal.specs.Refusal.{Row, when, Filled, fills}
 use Rattle.sha256.specs.Sha256.{sha256, not32}
 
 -- the bytes of a block of H; a digest has 32, the L of the RFC
@@ -22,7 +22,7 @@ opad = replicate B 0x5c
 
 -- a key of more than B bytes is hashed, and its digest is the key
 unfoldable pub shortKey : List ℕ → List ℕ
-shortKey key = choose (ltb B (length key)) (sha256 key) key
+shortKey key = cond (ltb B (length key)) (sha256 key) key
 
 -- step (1): zeros after the key, to B bytes
 unfoldable pub zeroFilled : List ℕ → List ℕ

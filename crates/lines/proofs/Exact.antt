@@ -9,13 +9,14 @@ use native.Mathlib.Omega.{arith}
 use Prim.Native.Nat.{ℕ, _≤_, _<_}
 use lib.Dec.{T, eqb}
 use Rattle.text.specs.Text.{ascii, decimal, hex}
-use Rattle.text.specs.Read.{same, decimalIn, hexIn}
+use Rattle.octets.specs.Places.{same}
+use Rattle.text.specs.Read.{decimalIn, hexIn}
 use Rattle.text.specs.declared.Number.{Number}
 use Rattle.text.specs.declared.Number.the-variants.{Of, NoNumber}
 use Rattle.text.specs.declared.Byte.{Byte}
 use Rattle.text.specs.declared.Byte.the-variants.{Is, NoByte}
 use Rattle.text.proofs.Each.{Each, Lacks, each-more}
-use Rattle.text.proofs.Seeks.{same-eq}
+use Rattle.octets.proofs.Same.{same-eq}
 use Rattle.text.proofs.Numerals.{Digit, decimal-digits, hex-digits}
 use Rattle.text.proofs.Exact.{one-number, one-byte}
 use Rattle.lines.specs.Grammar.{blank, onto, parts, wordsOf, spaced, lineOf, Lawful, Reads, command, other}

@@ -7,8 +7,8 @@ use native.Mathlib.Numerals.{add-one}
 use Prim.Native.Nat.{ℕ, _+_, _≤_, _<_}
 use lib.ListN.{length, getD, drop, drop-of-length-le}
 use lib.Seq.{drop-cons}
-use Rattle.text.specs.Read.{same}
-use Rattle.text.proofs.Seeks.{same-eq}
+use Rattle.octets.specs.Places.{same}
+use Rattle.octets.proofs.Same.{same-eq}
 
 pub same-agrees : (a b : List ℕ) (i : ℕ) → i < length a → i < length b → getD a i 0 ≡ getD b i 0 → same (drop i a) (drop i b) ≡ same (drop (i + 1) a) (drop (i + 1) b)
 unfolding same

@@ -5,7 +5,8 @@ use mathlib.Core.List.{List, [], _∷_}
 use Prim.Native.Nat.{ℕ}
 use lib.Dec.{eqb}
 use Rattle.text.specs.Text.{ascii}
-use Rattle.text.specs.Read.{same, decimalIn, hexIn}
+use Rattle.octets.specs.Places.{same}
+use Rattle.text.specs.Read.{decimalIn, hexIn}
 use Rattle.text.specs.declared.Number.{Number}
 use Rattle.text.specs.declared.Number.the-variants.{Of, NoNumber}
 use Rattle.text.specs.declared.Byte.{Byte}

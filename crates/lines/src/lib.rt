@@ -5,7 +5,7 @@ ghost use mathlib.Core.Path.{_≡_};
 ghost use mathlib.Core.List.{[], _∷_};
 ghost use Prim.Native.Nat.{_≤_};
 ghost use lib.ListN.{length};
-ghost use Rattle.text.specs.Read.{same};
+ghost use Rattle.octets.specs.Places.{same};
 ghost use Rattle.lines.specs.Parse.{before, withAddress, withValue, withStamp, commandOf, wordsIn, parsed};
 
 pub const NEWLINE: u8 = 10;

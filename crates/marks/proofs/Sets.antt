@@ -1,6 +1,6 @@
 -- The marks as a set of addresses: the count is how many there are, and the lowest free is the smallest that is not among them. Assumes nothing.
 use mathlib.Core.Path.{_≡_, refl, sym, ap, _∙_, subst}
-use mathlib.Core.Bool.{Bool, true, false, not}
+use mathlib.Core.Bool.{Bool, true, false, cond, not}
 use mathlib.Core.List.{List, [], _∷_, _++_, append-nil, List·Memᴰ, List·Memᴰ·head, List·Memᴰ·tail, List·Memᴰ·not-nil, List·Memᴰ·append-cases, List·Memᴰ·eq-of-singleton, Memᴰ·append-left, Memᴰ·append-right}
 use mathlib.Core.Logic.{⊎-elim, _↔_}
 use Prim.Native.Nat.{ℕ, zero, suc, _+_, _-_, _≤_, _<_}
@@ -8,7 +8,6 @@ use native.Mathlib.Nat.{eq-or-lt-of-le, le-of-suc-le-suc, not-suc-le-zero}
 use native.Mathlib.Omega.{arith}
 use lib.ListN.{length, length-append}
 use borrow.Author.Tests.{eq-eqb, ne-eqb, not-true, not-false}
-use Rattle.refusal.specs.Refusal.{choose}
 use Rattle.state.specs.Sizes.{addresses}
 use Rattle.state.specs.Marks.{used, countBelow, countOf, lowestFrom}
 use Rattle.state.specs.Check.{inUse}
@@ -28,7 +27,7 @@ unfolding countBelow inUse
 count-length ws zero = refl
 count-length ws (suc n) = step (used ws n) (count-length ws n)
   where
-    step : (t : Bool) → countBelow n ws ≡ length (usedBelow ws n) → choose t (countBelow n ws + 1) (countBelow n ws) ≡ length (usedBelow ws n ++ choose t (n ∷ []) [])
+    step : (t : Bool) → countBelow n ws ≡ length (usedBelow ws n) → cond t (countBelow n ws + 1) (countBelow n ws) ≡ length (usedBelow ws n ++ cond t (n ∷ []) [])
     step true e = rw (length-append, e)
     step false e = rw (length-append, e) (omega arith)
 
@@ -38,7 +37,7 @@ in-use-only ws zero a m = absurd (List·Memᴰ·not-nil m)
 in-use-only ws (suc n) a m =
     ⊎-elim (λ l. let h = in-use-only ws n a l in (omega (arith, h .0), h .1)) (last (used ws n) refl) (List·Memᴰ·append-cases (usedBelow ws n) m)
   where
-    last : (t : Bool) → used ws n ≡ t → List·Memᴰ a (choose t (n ∷ []) []) → (a < suc n) × (used ws a ≡ true)
+    last : (t : Bool) → used ws n ≡ t → List·Memᴰ a (cond t (n ∷ []) []) → (a < suc n) × (used ws a ≡ true)
     last true e l = let q : a ≡ n = List·Memᴰ·eq-of-singleton l in (omega arith, rw q e)
     last false e l = absurd (List·Memᴰ·not-nil l)
 
@@ -48,7 +47,7 @@ in-use-all ws zero a h e = absurd (not-suc-le-zero h)
 in-use-all ws (suc n) a h e =
     ⊎-elim (λ q. Memᴰ·append-right (usedBelow ws n) (last q)) (λ l. Memᴰ·append-left _ (in-use-all ws n a l e)) (eq-or-lt-of-le (le-of-suc-le-suc h))
   where
-    last : a ≡ n → List·Memᴰ a (choose (used ws n) (n ∷ []) [])
+    last : a ≡ n → List·Memᴰ a (cond (used ws n) (n ∷ []) [])
     last q = rw (rw q at e) (List·Memᴰ·head q)
 
 distinct-last : (xs : List ℕ) (x : ℕ) → Distinct xs → (List·Memᴰ x xs → ⊥) → Distinct (xs ++ (x ∷ []))
@@ -61,7 +60,7 @@ unfolding inUse
 in-use-once ws zero = tt
 in-use-once ws (suc n) = step (used ws n) (in-use-once ws n)
   where
-    step : (t : Bool) → Distinct (usedBelow ws n) → Distinct (usedBelow ws n ++ choose t (n ∷ []) [])
+    step : (t : Bool) → Distinct (usedBelow ws n) → Distinct (usedBelow ws n ++ cond t (n ∷ []) [])
     step true d = distinct-last (usedBelow ws n) n d (λ m. absurd (omega (arith, in-use-only ws n n m .0)))
     step false d = rw append-nil d
 
@@ -93,7 +92,7 @@ first-only p (suc k) a r s =
     (first-only p k (suc a) r (record { from = h; to = omega (arith, s .to); before = λ b g l. s .before b (omega arith) l; here = λ g. s .here (omega arith) })))
     (eq-or-lt-of-le (s .from))
   where
-    at : a ≡ r → choose (p a) a (firstFrom p k (suc a)) ≡ r
+    at : a ≡ r → cond (p a) a (firstFrom p k (suc a)) ≡ r
     at e = rw (ap p e ∙ s .here (omega arith)) e
 
 pub first-is : (p : ℕ → Bool) (k a : ℕ) → First p k a (firstFrom p k a)
@@ -101,7 +100,7 @@ unfolding firstFrom
 first-is p zero a = record { from = omega arith; to = omega arith; before = λ b g l. absurd (omega arith); here = λ l. absurd (omega arith) }
 first-is p (suc k) a = step (p a) refl (first-is p k (suc a))
   where
-    step : (t : Bool) → p a ≡ t → First p k (suc a) (firstFrom p k (suc a)) → First p (suc k) a (choose t a (firstFrom p k (suc a)))
+    step : (t : Bool) → p a ≡ t → First p k (suc a) (firstFrom p k (suc a)) → First p (suc k) a (cond t a (firstFrom p k (suc a)))
     step true e s = record { from = omega arith; to = omega arith; before = λ b g l. absurd (omega arith); here = λ l. e }
     step false e s =
         record {
@@ -121,7 +120,7 @@ unfolding lowestFrom firstFrom
 lowest-first ws zero a = refl
 lowest-first ws (suc k) a = step (used ws a) (lowest-first ws k (suc a))
   where
-    step : (t : Bool) → lowestFrom k (suc a) ws ≡ firstFrom (free ws) k (suc a) → choose t (lowestFrom k (suc a) ws) a ≡ choose (not t) a (firstFrom (free ws) k (suc a))
+    step : (t : Bool) → lowestFrom k (suc a) ws ≡ firstFrom (free ws) k (suc a) → cond t (lowestFrom k (suc a) ws) a ≡ cond (not t) a (firstFrom (free ws) k (suc a))
     step true e = e
     step false e = refl
 

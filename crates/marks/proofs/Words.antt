@@ -1,6 +1,6 @@
 -- A word's ones are its marks that are set, and its trailing zeros stand before the first of them: by induction on the digits. Assumes nothing.
 use mathlib.Core.Path.{_≡_, refl, sym, ap, _∙_}
-use mathlib.Core.Bool.{Bool, true, false}
+use mathlib.Core.Bool.{Bool, true, false, cond}
 use mathlib.Core.List.{List}
 use mathlib.Core.Logic.{_⊎_, inl, inr, ⊎-elim}
 use Prim.Native.Nat.{ℕ, zero, suc, _+_, _-_, _*_, _/_, _%_, _^_, _≤_, _<_}
@@ -11,7 +11,6 @@ use borrow.Author.Tests.{ltb-true, ltb-false}
 use lib.Dec.{eqb, ltb, lit<}
 use lib.ListN.{length, getD, List·getD-eq-default}
 use lib.Pow.{pow-pos, pow-mono, mod-pow-add, shr-shr, shl-exact}
-use Rattle.refusal.specs.Refusal.{choose}
 use Rattle.state.specs.Marks.{used, countBelow}
 
 -- digit b of word q is the mark of address 64 q + b
@@ -37,7 +36,7 @@ ones-digit zero h = refl
 ones-digit (suc zero) h = refl
 ones-digit (suc (suc d)) h = absurd (omega arith)
 
-counted : (d n : ℕ) → d < 2 → choose (eqb d 1) (n + 1) n ≡ n + d
+counted : (d n : ℕ) → d < 2 → cond (eqb d 1) (n + 1) n ≡ n + d
 counted zero n h = omega arith
 counted (suc zero) n h = refl
 counted (suc (suc d)) n h = absurd (omega arith)

@@ -3,10 +3,10 @@ use state::Hash;
 use state::State;
 ghost use mathlib.Core.Path.{_≡_};
 ghost use Prim.Native.Nat.{_+_};
-ghost use Rattle.octets.specs.Places.{xor};
+ghost use Rattle.octets.specs.Places.{xor, same};
 ghost use Rattle.state.specs.Sizes.{width};
 ghost use Rattle.state.specs.Cells.{entry};
-ghost use Rattle.state.specs.Multiset.{message, withTag, same, sameHash};
+ghost use Rattle.state.specs.Multiset.{message, withTag, sameHash};
 ghost use Rattle.multiset.specs.Tag.{tagOf};
 
 // Where the value and the stamp stand in a message, and the message's size.

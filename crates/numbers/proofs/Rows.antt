@@ -1,10 +1,10 @@
 -- Rows taken one after another give the number of the first that holds: by induction on the rows. Assumes nothing.
 use mathlib.Core.Path.{_≡_, refl}
-use mathlib.Core.Bool.{Bool, true, false}
+use mathlib.Core.Bool.{Bool, true, false, cond}
 use mathlib.Core.List.{List, [], _∷_}
 use Prim.Native.Nat.{ℕ, zero, suc}
 use lib.Dec.{T, ltb}
-use Rattle.refusal.specs.Refusal.{Row, choose, first}
+use Rattle.refusal.specs.Refusal.{Row, first}
 use Rattle.refusal.proofs.Passed.{numbered, both}
 use Rattle.numbers.specs.Rows.{after}
 
@@ -17,7 +17,7 @@ given-stays : (n : ℕ) (rows : List Row) → afterAll (suc n) rows ≡ suc n
 given-stays n [] = refl
 given-stays n (r ∷ rs) = given-stays n rs
 
-row-step : (b : Bool) (n : ℕ) (rs : List Row) → T (ltb 0 n) → afterAll 0 rs ≡ first rs → afterAll (choose b n 0) rs ≡ choose b n (first rs)
+row-step : (b : Bool) (n : ℕ) (rs : List Row) → T (ltb 0 n) → afterAll 0 rs ≡ first rs → afterAll (cond b n 0) rs ≡ cond b n (first rs)
 row-step true zero rs p e = absurd p
 row-step true (suc n) rs p e = given-stays n rs
 row-step false n rs p e = e

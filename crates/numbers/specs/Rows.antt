@@ -1,8 +1,9 @@
 -- 01, "Numbers given back", a row at a time.
 -- Assumes nothing.
+use mathlib.Core.Bool.{cond}
 use Prim.Native.Nat.{ℕ}
-use Rattle.refusal.specs.Refusal.{Row, choose, done}
+use Rattle.refusal.specs.Refusal.{Row, done}
 
 -- the number given so far; a further row's where there is none and the row holds
 abbrev pub after : ℕ → Row → ℕ
-after n r = done n (choose (r .holds) (r .number) 0) n
+after n r = done n (cond (r .holds) (r .number) 0) n

@@ -1,2 +1,3 @@
 pub mod Layouts
 pub mod Places
+pub mod Same

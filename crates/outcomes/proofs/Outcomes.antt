@@ -5,6 +5,9 @@ use Rattle.refusal.specs.Refusal.{Filled}
 use Rattle.state.specs.Step.{Seen}
 use Rattle.state.specs.declared.Moved.{Moved}
 use Rattle.state.specs.declared.Checked.{Checked}
+use Rattle.page.specs.Page.{Page}
+use Rattle.commands.specs.Commands.{Ran as Left}
+use Rattle.commands.specs.declared.Ran.{Ran}
 use Rattle.outcomes.specs.Outcomes.{Outcomes}
 
 -- from y, which is seen, the result and what the parameters hold at the end
@@ -23,6 +26,12 @@ checked y = record { number = y .number; verdict = y .verdict; state = y .state 
 
 abbrev number : Filled → ℕ
 number y = y .number
+
+abbrev place : Page → ℕ
+place y = y .at
+
+abbrev after : Left → Ran
+after y = record { state = y .state; answer = y .answer }
 
 pub outcomes : Outcomes
 outcomes = record {
@@ -62,9 +71,16 @@ outcomes = record {
   tag = record { any = λ κs a. tt; one = λ κs a r r′ l l′. plain };
   with-tag = record { any = λ κs a. tt; one = λ κs a r r′ l l′. plain };
   same = record { any = λ κs a. tt; one = λ κs a r r′ l l′. plain };
+  decimal = record { any = λ κs a. tt; one = λ κs a r r′ l l′. plain };
+  hex = record { any = λ κs a. tt; one = λ κs a r r′ l l′. plain };
+  put = record { any = λ κs a. tt; one = λ κs a r r′ l l′. again place (λ y. (y .bytes, (tt, (tt, tt)))) };
+  put-decimal = record { any = λ κs a. tt; one = λ κs a r r′ l l′. again place (λ y. (y .bytes, (tt, (tt, tt)))) };
+  put-hex = record { any = λ κs a. tt; one = λ κs a r r′ l l′. again place (λ y. (y .bytes, (tt, (tt, tt)))) };
   find = record { any = λ κs a. tt; one = λ κs a r r′ l l′ p q. plain (p .0) (q .0) };
   parse = record { any = λ κs a. tt; one = λ κs a r r′ l l′. plain };
-  run = record { any = λ κs a. tt; one = λ κs a r r′ l l′. again (λ y. y .at) (λ y. (tt, (y .bytes, tt))) };
+  say = record { any = λ κs a. tt; one = λ κs a r r′ l l′. again place (λ y. (y .bytes, (tt, (tt, tt)))) };
+  command = record { any = λ κs a. tt; one = λ κs a r r′ l l′. again after (λ y. (tt, (y .store, (tt, tt)))) };
+  run = record { any = λ κs a. tt; one = λ κs a r r′ l l′. again place (λ y. (tt, (y .bytes, tt))) };
   speed-digest = record { any = λ κs a. tt; one = λ κs a r r′ l l′. again number (λ y. (tt, (y .out, tt))) };
   speed-mac = record { any = λ κs a. tt; one = λ κs a r r′ l l′. again number (λ y. (tt, (tt, (y .out, tt)))) };
   speed-tag = record { any = λ κs a. tt; one = λ κs a r r′ l l′. again (λ y. tt) (λ y. (tt, (tt, (y, tt)))) };

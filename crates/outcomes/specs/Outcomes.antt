@@ -42,8 +42,15 @@ use Rattle.multiset.proofs.message as Message
 use Rattle.multiset.proofs.tag as Tag
 use Rattle.multiset.proofs.with_tag as WithTag
 use Rattle.multiset.proofs.same as Same
+use Rattle.text.proofs.decimal as Decimal
+use Rattle.text.proofs.hex as Hex
+use Rattle.page.proofs.put as Put
+use Rattle.page.proofs.put_decimal as PutDecimal
+use Rattle.page.proofs.put_hex as PutHex
 use Rattle.lines.proofs.find as Find
 use Rattle.lines.proofs.parse as Parse
+use Rattle.answers.proofs.say as Say
+use Rattle.commands.proofs.run as Command
 use Rattle.session.proofs.run as Run
 use Rattle.speed.proofs.speed_digest as SpeedDigest
 use Rattle.speed.proofs.speed_mac as SpeedMac
@@ -101,8 +108,15 @@ pub record Outcomes : Type 1 where
   pub with-tag : Tight WithTag.ended WithTag.Reads.Asked WithTag.Reads.Learnt
   pub same : Tight Same.ended Same.Reads.Asked Same.Reads.Learnt
   -- the bench's library, and the calls that are measured
+  pub decimal : Tight Decimal.ended Decimal.Reads.Asked Decimal.Reads.Learnt
+  pub hex : Tight Hex.ended Hex.Reads.Asked Hex.Reads.Learnt
+  pub put : Tight Put.ended Put.Reads.Asked Put.Reads.Learnt
+  pub put-decimal : Tight PutDecimal.ended PutDecimal.Reads.Asked PutDecimal.Reads.Learnt
+  pub put-hex : Tight PutHex.ended PutHex.Reads.Asked PutHex.Reads.Learnt
   pub find : Tight Find.ended Find.Reads.Asked Find.Reads.Learnt
   pub parse : Tight Parse.ended Parse.Reads.Asked Parse.Reads.Learnt
+  pub say : Tight Say.ended Say.Reads.Asked Say.Reads.Learnt
+  pub command : Tight Command.ended Command.Reads.Asked Command.Reads.Learnt
   pub run : Tight Run.ended Run.Reads.Asked Run.Reads.Learnt
   pub speed-digest : Tight SpeedDigest.ended SpeedDigest.Reads.Asked SpeedDigest.Reads.Learnt
   pub speed-mac : Tight SpeedMac.ended SpeedMac.Reads.Asked SpeedMac.Reads.Learnt

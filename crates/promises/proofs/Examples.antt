@@ -1,7 +1,7 @@
 -- The examples of the calls compute once the rows that an example fixes are known; the others are proved where their definitions stand. Assumes nothing.
 use borrow.Author.Tests.{eq-eqb, lt-ltb}
 use mathlib.Core.Path.{_≡_, refl, sym, ap, _∙_}
-use mathlib.Core.Bool.{false}
+use mathlib.Core.Bool.{false, cond}
 use mathlib.Core.List.{List, [], _∷_, _++_, append-nil}
 use Prim.Native.Nat.{ℕ, _+_, _<_}
 use native.Mathlib.Omega.{arith}
@@ -9,7 +9,7 @@ use lib.Dec.{eqb}
 use lib.ListN.{length, take, drop, replicate}
 use lib.Seq.{drop-length}
 use Rattle.octets.specs.Layout.{total, split, number, bytes}
-use Rattle.refusal.specs.Refusal.{choose, first}
+use Rattle.refusal.specs.Refusal.{first}
 use Rattle.refusal.proofs.Exact.{exactly}
 use Rattle.state.specs.Sizes.{width, addresses, valueSize, cellSize, storeSize, ceiling}
 use Rattle.state.specs.Marks.{used, countBelow, countOf, lowestFrom}
@@ -72,7 +72,7 @@ module _ (s : State) (m v : List ℕ) (z : Sized s m v) where
       (simp (z .unclosed, l), simp (z .unclosed, l), simp (z .unclosed, l), simp (z .unclosed, l), simp l)
 
   module _ (a : ℕ) (h : a < 1024) (u : used (s .marks) a ≡ false) where
-    rows-at : (c : ℕ) → s .clock ≡ c → first (addRows width s m a v) ≡ choose (eqb c 65535) 6 0
+    rows-at : (c : ℕ) → s .clock ≡ c → first (addRows width s m a v) ≡ cond (eqb c 65535) 6 0
     unfolding addRows storeSize addresses cellSize valueSize ceiling
     rows-at c e = simp (z .unclosed, eq-eqb (length m) 30720 (z .store), lt-ltb a 1024 h, eq-eqb (length v) 28 (z .value), u, e)
 

@@ -1,13 +1,13 @@
 -- Every call's number is the first of its rows that holds, so refusal's theorem gives each number exactly; a refused call is the one that changes nothing.
 -- Assumes nothing.
 use mathlib.Core.Path.{_≡_, refl, sym, ap, _∙_}
-use mathlib.Core.Bool.{Bool, true, false}
+use mathlib.Core.Bool.{Bool, true, false, cond}
 use mathlib.Core.List.{List, []}
 use mathlib.Core.Logic.{_↔_}
 use mathlib.Core.Option.{some, Option·none-ne-some, Option·some-injective}
 use Prim.Native.Nat.{ℕ, zero, suc}
 use native.Mathlib.Omega.{arith}
-use Rattle.refusal.specs.Refusal.{Row, first, choose, done, Given, fills}
+use Rattle.refusal.specs.Refusal.{Row, first, done, Given, fills}
 use Rattle.refusal.proofs.Exact.{exactly}
 use Rattle.refusal.proofs.Passed.{done-other}
 use lib.Dec.{eqb}
@@ -54,7 +54,7 @@ call-exactly rows s m o x e = record {
   unchanged = call-unchanged (first rows) s m o x e;
 }
 
-check-number : (b : Bool) (x y : Step) → x .seen .number ≡ 0 → y .seen .number ≡ 0 → choose b x y .seen .number ≡ 0
+check-number : (b : Bool) (x y : Step) → x .seen .number ≡ 0 → y .seen .number ≡ 0 → cond b x y .seen .number ≡ 0
 check-number true x y e h = e
 check-number false x y e h = h
 
@@ -66,7 +66,7 @@ check-verdict zero s m x e v = ((λ z. v), (λ z. e))
 check-verdict (suc n) s m x e v = ((λ z. absurd (omega arith)), (λ z. let y : _≡_ {A = ℕ} 0 1 = cc in absurd (omega arith)))
 
 said : (b : Bool) (x y : Step) → verdictNumber (x .seen .verdict) ≡ some 0 → verdictNumber (y .seen .verdict) ≡ some 0
-    → verdictNumber (choose b x y .seen .verdict) ≡ some 0
+    → verdictNumber (cond b x y .seen .verdict) ≡ some 0
 said true x y e h = e
 said false x y e h = h
 
@@ -87,7 +87,7 @@ look-exactly m a = (
 )
 
 -- an address where the row does not hold, and none where it does
-free-number : (b : Bool) (a : ℕ) → freeNumber (done (choose b 9 0) (At a) Full) ≡ choose b 9 0
+free-number : (b : Bool) (a : ℕ) → freeNumber (done (cond b 9 0) (At a) Full) ≡ cond b 9 0
 unfolding freeNumber
 free-number true a = refl
 free-number false a = refl
@@ -111,12 +111,12 @@ numbers = record {
   load = λ s m a o. call-exactly (useRows width s m a o) s m o (loaded width tag s m a) refl;
   store = λ s m a v. call-exactly (useRows width s m a v) s m [] (stored width tag s m a v) refl;
   remove = λ s m a. call-exactly (removeRows width s m a) s m [] (removed width tag s m a) refl;
-  check = λ s m. call-exactly (checkRows width s m) s m [] (choose (agrees (takeBelow width tag s m addresses)) (acceptance width tag s m) (rejection width tag s m)) (check-number (agrees (takeBelow width tag s m addresses)) (acceptance width tag s m) (rejection width tag s m) refl refl);
+  check = λ s m. call-exactly (checkRows width s m) s m [] (cond (agrees (takeBelow width tag s m addresses)) (acceptance width tag s m) (rejection width tag s m)) (check-number (agrees (takeBelow width tag s m addresses)) (acceptance width tag s m) (rejection width tag s m) refl refl);
   check-verdict = λ s m.
       let x = acceptance width tag s m in
       let y = rejection width tag s m in
       let b = agrees (takeBelow width tag s m addresses) in
-      check-verdict (first (checkRows width s m)) s m (choose b x y) (check-number b x y refl refl) (said b x y refl refl);
+      check-verdict (first (checkRows width s m)) s m (cond b x y) (check-number b x y refl refl) (said b x y refl refl);
   look-size = look-size;
   look = look-exactly;
   count = count-is;

@@ -1,10 +1,10 @@
 -- The first row that holds decides: by induction on the rows. Assumes nothing.
 use mathlib.Core.Path.{_≡_, refl, sym, ap, _∙_}
-use mathlib.Core.Bool.{Bool, true, false}
+use mathlib.Core.Bool.{Bool, true, false, cond}
 use mathlib.Core.List.{List, [], _∷_, _++_}
 use mathlib.Core.Logic.{inl, inr}
 use Prim.Native.Nat.{ℕ}
-use Rattle.refusal.specs.Refusal.{Row, choose, first, NoneHolds, Given}
+use Rattle.refusal.specs.Refusal.{Row, first, NoneHolds, Given}
 
 -- where no row holds the number is 0
 pub none-first : (rows : List Row) → NoneHolds rows → first rows ≡ 0
@@ -27,7 +27,7 @@ unfolding NoneHolds
 further n r rs e (inl g) = inl (g .0, (e, g .1))
 further n r rs e (inr g) = inr (record { before = r ∷ g .before; row = g .row; after = g .after; place = ap (λ l. r ∷ l) (g .place); earlier = (e, g .earlier); holds = g .holds; given = g .given })
 
-split-first : (r : Row) (rs : List Row) → Given (first rs) rs → (b : Bool) → r .holds ≡ b → Given (choose b (r .number) (first rs)) (r ∷ rs)
+split-first : (r : Row) (rs : List Row) → Given (first rs) rs → (b : Bool) → r .holds ≡ b → Given (cond b (r .number) (first rs)) (r ∷ rs)
 unfolding NoneHolds
 split-first r rs g true e = inr (record { before = []; row = r; after = rs; place = refl; earlier = tt; holds = e; given = refl })
 split-first r rs g false e = further (first rs) r rs e g

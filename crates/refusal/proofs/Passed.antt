@@ -1,11 +1,11 @@
 -- A call whose number is 0 is done, and no row of it holds: by induction on the rows. Assumes nothing.
 use mathlib.Core.Path.{_≡_, refl}
-use mathlib.Core.Bool.{Bool, true, false, _&&_}
+use mathlib.Core.Bool.{Bool, true, false, cond, _&&_}
 use mathlib.Core.List.{List, [], _∷_}
 use Prim.Native.Nat.{ℕ, zero, suc}
 use native.Mathlib.Omega.{arith}
 use lib.Dec.{T, ltb}
-use Rattle.refusal.specs.Refusal.{Row, choose, first, done, NoneHolds}
+use Rattle.refusal.specs.Refusal.{Row, first, done, NoneHolds}
 
 pub done-zero : {A : Type 0} (n : ℕ) (x y : A) → n ≡ 0 → done n x y ≡ x
 done-zero n x y e = rw e
@@ -23,7 +23,7 @@ pub both : (s t : Bool) → T (s && t) → T s × T t
 both true t e = (tt, e)
 both false t e = absurd e
 
-none-step : (b : Bool) (n k : ℕ) → T (ltb 0 n) → choose b n k ≡ 0 → (b ≡ false) × (k ≡ 0)
+none-step : (b : Bool) (n k : ℕ) → T (ltb 0 n) → cond b n k ≡ 0 → (b ≡ false) × (k ≡ 0)
 none-step true zero k p e = absurd p
 none-step true (suc n) k p e = absurd (omega arith)
 none-step false n k p e = (refl, e)

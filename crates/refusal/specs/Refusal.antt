@@ -1,7 +1,7 @@
 -- 01, "Numbers given back": the rows of a call, in its order, and the number that they give.
 -- Assumes nothing.
 use mathlib.Core.Path.{_≡_}
-use mathlib.Core.Bool.{Bool, true, false}
+use mathlib.Core.Bool.{Bool, true, false, cond}
 use mathlib.Core.List.{List, [], _∷_, _++_}
 use mathlib.Core.Logic.{_⊎_}
 use Prim.Native.Nat.{ℕ, zero, suc}
@@ -15,14 +15,10 @@ pub record Row : Type 0 where
 abbrev pub when : ℕ → Bool → Row
 when n b = record { holds = b; number = n }
 
-abbrev pub choose : {A : Type 0} → Bool → A → A → A
-choose true x y = x
-choose false x y = y
-
 -- the number of the first row that holds, or 0
 abbrev pub first : List Row → ℕ
 first [] = 0
-first (r ∷ rs) = choose (r .holds) (r .number) (first rs)
+first (r ∷ rs) = cond (r .holds) (r .number) (first rs)
 
 -- no row of these holds
 unfoldable pub NoneHolds : List Row → Type 0

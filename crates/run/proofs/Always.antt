@@ -23,7 +23,7 @@ use Rattle.run.specs.Demand3.{stateAfter}
 use Rattle.run.proofs.Lists.{by-last}
 use Rattle.run.proofs.Logs.{Log, putL, takeL, noLog, noted, follow}
 use Rattle.run.proofs.Micro.{Stamps, take-stamps, put-stamps}
-use Rattle.run.proofs.Walk.{by-choose, taken-puts, taken-log, opened-log, open-stamps}
+use Rattle.run.proofs.Walk.{by-cond, taken-puts, taken-log, opened-log, open-stamps}
 use Rattle.state.proofs.Ready.{add-ready, use-ready, remove-ready, check-ready}
 use Rattle.run.proofs.Steps.{rowsOf, whenDone, by-call}
 use Rattle.run.proofs.Runs.{by-start, logOf, by-step}
@@ -85,7 +85,7 @@ module _ (w : ℕ) (tag : List ℕ → Entry → List ℕ) (s : State) (m : List
       go (store a v) = exchange a v
       go (remove a) = stamps-move (takeEntry tag s (entryAt w m a)) _ (takeL l (entryAt w m a)) _ refl refl (take-stamps tag s l (entryAt w m a) h)
       go check =
-          by-choose (λ (r : Step). Stamps (r .seen .state) (follow l (r .events))) (agrees (takeBelow w tag s m addresses))
+          by-cond (λ (r : Step). Stamps (r .seen .state) (follow l (r .events))) (agrees (takeBelow w tag s m addresses))
           (λ k. subst (Stamps _) (sym (opened-log w s m l)) (open-stamps w s m tag addresses))
           (λ k. stamps-move s _ l _ refl (ap (λ (x : Log). x .puts) (taken-log w s m l) ∙ taken-puts w s m l addresses) h)
       go (look a) = h
@@ -106,7 +106,7 @@ module _ (w : ℕ) (tag : List ℕ → Entry → List ℕ) (s : State) (m : List
       go (store a v) e = raised (use-ready w s m a v e .1 .time)
       go (remove a) e = h
       go check e =
-          by-choose (λ (r : Step). r .seen .state .clock ≤ ceiling w) (agrees (takeBelow w tag s m addresses))
+          by-cond (λ (r : Step). r .seen .state .clock ≤ ceiling w) (agrees (takeBelow w tag s m addresses))
           (λ k. omega (arith, opens-below w tag s m addresses .clock, ceiling-one w one))
           (λ k. h)
       go (look a) e = h

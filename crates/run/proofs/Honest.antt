@@ -1,7 +1,7 @@
 -- Where every cell in use holds the entry that is held, no stamp is ahead of the clock, and a check's takes bring every count of takes up to that of puts: it
 -- accepts. And each call writes what it puts, so the cells hold it again. Assumes nothing.
 use mathlib.Core.Path.{_≡_, refl, sym, ap, _∙_, subst}
-use mathlib.Core.Bool.{Bool, true, false, false≢true}
+use mathlib.Core.Bool.{Bool, true, false, cond, false≢true}
 use mathlib.Core.List.{List}
 use mathlib.Core.Option.{Option, none, some}
 use mathlib.Core.Logic.{_⊎_, inl, inr, _≢_}
@@ -11,7 +11,7 @@ use native.Mathlib.Omega.{arith}
 use lib.Dec.{eqb, ltb}
 use lib.ListN.{length, replicate, length-replicate}
 use borrow.Author.Tests.{eqb-true, eqb-false, ltb-true, ltb-false, le-ltb}
-use Rattle.refusal.specs.Refusal.{first, choose}
+use Rattle.refusal.specs.Refusal.{first}
 use Rattle.state.specs.Sizes.{addresses, valueSize, storeSize, ceiling}
 use Rattle.state.specs.Marks.{used}
 use Rattle.state.specs.Cells.{Entry, valueAt, entryAt, writeCell, writeEntry}
@@ -28,7 +28,7 @@ use Rattle.run.specs.Calls.{Call, add, load, store, remove, check, look,
 use Rattle.run.proofs.Logs.{Log, upd, putL, takeL, noted, follow}
 use Rattle.run.proofs.Balance.{upd-same, upd-other, upd-here, heldTimes, Balance, take-balance, put-balance}
 use Rattle.run.proofs.Micro.{Stamps, Hashed}
-use Rattle.run.proofs.Walk.{by-choose, below-suc, walk, takenL, taken-above, taken-none, taken-gone, taken-hashed, openL, opened-log, open-balance}
+use Rattle.run.proofs.Walk.{by-cond, below-suc, walk, takenL, taken-above, taken-none, taken-gone, taken-hashed, openL, opened-log, open-balance}
 use Rattle.state.proofs.Ready.{Ready, add-ready, use-ready, remove-ready, check-ready}
 use Rattle.run.proofs.Steps.{rowsOf, whenDone}
 use Rattle.run.proofs.Moves.{there, Fit, free, opened-held}
@@ -80,13 +80,13 @@ module _ (w : ℕ) (one : 1 ≤ w) (tag : List ℕ → Entry → List ℕ) (s : 
   taken-clock : (n : ℕ) → takeBelow w tag s m n .clock ≡ s .clock
   unfolding takeBelow takeEntry
   taken-clock zero = refl
-  taken-clock (suc n) = by-choose (λ (x : State). x .clock ≡ s .clock) (used (s .marks) n) (λ e. taken-clock n) (λ e. taken-clock n)
+  taken-clock (suc n) = by-cond (λ (x : State). x .clock ≡ s .clock) (used (s .marks) n) (λ e. taken-clock n) (λ e. taken-clock n)
 
   taken-faultless : (n : ℕ) → takeBelow w tag s m n .fault ≡ false
   unfolding takeBelow takeEntry
   taken-faultless zero = fine .faultless
   taken-faultless (suc n) =
-      by-choose (λ (x : State). x .fault ≡ false) (used (s .marks) n)
+      by-cond (λ (x : State). x .fault ≡ false) (used (s .marks) n)
       (λ u. rw (taken-faultless n, taken-clock n, le-ltb (s .clock) (entryAt w m n .stamp) (on-time n u)))
       (λ u. taken-faultless n)
 
@@ -94,7 +94,7 @@ module _ (w : ℕ) (one : 1 ≤ w) (tag : List ℕ → Entry → List ℕ) (s : 
   unfolding walk noted entryAt
   taken-balance zero = fine .balance
   taken-balance (suc n) =
-      by-choose Balance (used (s .marks) n)
+      by-cond Balance (used (s .marks) n)
       (λ u. take-balance (takenL w s m l n) (entryAt w m n) (taken-balance n) (taken-above w s m l n n (omega arith) ∙ right n u))
       (λ u. taken-balance n)
 
@@ -185,7 +185,7 @@ module _ (w : ℕ) (one : 1 ≤ w) (tag : List ℕ → Entry → List ℕ) (s : 
       below-length zero h = size
       below-length (suc n) h =
           let ih = below-length n (omega arith) in
-          by-choose (λ (x : List ℕ). length x ≡ storeSize w) (used (s .marks) n) (λ u. write-length w (putBelow w (s .marks) m n) n (valueAt w m n) 1 h ih (opening-size n h)) (λ u. ih)
+          by-cond (λ (x : List ℕ). length x ≡ storeSize w) (used (s .marks) n) (λ u. write-length w (putBelow w (s .marks) m n) n (valueAt w m n) 1 h ih (opening-size n h)) (λ u. ih)
 
       below-holds : (n a : ℕ) → n ≤ addresses → a < n → used (s .marks) a ≡ true → entryAt w (putBelow w (s .marks) m n) a ≡ opening w m a
       unfolding putBelow writeEntry opening
@@ -197,18 +197,18 @@ module _ (w : ℕ) (one : 1 ≤ w) (tag : List ℕ → Entry → List ℕ) (s : 
 
           go : (a ≡ n) ⊎ (a < n) → (a < n → used (s .marks) a ≡ true → entryAt w x a ≡ opening w m a) → entryAt w (putBelow w (s .marks) m (suc n)) a ≡ opening w m a
           go (inl e) ih =
-              by-choose (λ (y : List ℕ). entryAt w y a ≡ opening w m a) (used (s .marks) n)
+              by-cond (λ (y : List ℕ). entryAt w y a ≡ opening w m a) (used (s .marks) n)
               (λ v. ap (entryAt w (writeCell w x n (valueAt w m n) 1)) e ∙ entry-written w x n (valueAt w m n) 1 h (below-length n (omega arith)) (opening-size n h) (below-bound w 1 (ceiling-one w one)) ∙ ap (opening w m) (sym e))
               (λ v. absurd (false≢true (sym v ∙ ap (used (s .marks)) (sym e) ∙ u)))
           go (inr k) ih =
-              by-choose (λ (y : List ℕ). entryAt w y a ≡ opening w m a) (used (s .marks) n)
+              by-cond (λ (y : List ℕ). entryAt w y a ≡ opening w m a) (used (s .marks) n)
               (λ v. entry-other w x n (valueAt w m n) 1 h (below-length n (omega arith)) (opening-size n h) a (λ q. omega arith) ∙ ih k u)
               (λ v. ih k u)
 
       opened-holds : Holds w (openL w s m addresses) (putBelow w (s .marks) m addresses)
       opened-holds a c e = go (used (s .marks) a) refl
         where
-          held : openL w s m addresses .held a ≡ choose (used (s .marks) a) (some (opening w m a)) none
+          held : openL w s m addresses .held a ≡ cond (used (s .marks) a) (some (opening w m a)) none
           held = opened-held w s m (fit .sixteen) a
 
           go : (b : Bool) → used (s .marks) a ≡ b → entryAt w (putBelow w (s .marks) m addresses) a ≡ c
@@ -222,7 +222,7 @@ module _ (w : ℕ) (one : 1 ≤ w) (tag : List ℕ → Entry → List ℕ) (s : 
         → Fine w (whenDone w tag s m check .seen .state) (follow l (whenDone w tag s m check .events)) (whenDone w tag s m check .seen .store)
     unfolding acceptance
     check-fine e =
-        by-choose (λ (r : Step). Fine w (r .seen .state) (follow l (r .events)) (r .seen .store)) (agrees (takeBelow w tag s m addresses))
+        by-cond (λ (r : Step). Fine w (r .seen .state) (follow l (r .events)) (r .seen .store)) (agrees (takeBelow w tag s m addresses))
         (λ k.
         subst (λ (g : Log). Fine w (openBelow w tag s m addresses) g (putBelow w (s .marks) m addresses)) (sym (opened-log w s m l))
         (record { balance = open-balance w s m addresses; faultless = opens-below w tag s m addresses .fault ∙ fine .faultless; holds = opened-holds (check-ready w s m e .1) }))

@@ -1,13 +1,12 @@
 -- What the events of a run leave written down: the entries put and taken since the last accepted check, and at each address the entry put there and
 -- not taken since. Of a period it is just the period's entries, by induction on the events. Assumes nothing.
 use mathlib.Core.Path.{_≡_, refl, sym, ap, _∙_}
-use mathlib.Core.Bool.{Bool, true, false, true≢false}
+use mathlib.Core.Bool.{Bool, true, false, cond, true≢false}
 use mathlib.Core.List.{List, [], _∷_, _++_, append-nil, append-assoc, tail-eq-of-cons-eq, foldl, foldl-append}
 use mathlib.Core.Option.{Option, none, some}
 use mathlib.Core.Logic.{_⊎_, inl, inr, ⊎-elim}
 use Prim.Native.Nat.{ℕ}
 use lib.Dec.{eqb}
-use Rattle.refusal.specs.Refusal.{choose}
 use Rattle.state.specs.Cells.{Entry}
 use Rattle.state.specs.Step.{Event, took, put, answered, set, dropped, accepted}
 use Rattle.run.specs.Demand3.{putIn, takenIn, Since}
@@ -19,7 +18,7 @@ pub record Log : Type 0 where
   pub held : ℕ → Option Entry
 
 unfoldable pub upd : (ℕ → Option Entry) → ℕ → Option Entry → (ℕ → Option Entry)
-upd f a x b = choose (eqb b a) x (f b)
+upd f a x b = cond (eqb b a) x (f b)
 
 unfoldable pub putL : Log → Entry → Log
 putL l e = record { puts = l .puts ++ (e ∷ []); takes = l .takes; held = upd (l .held) (e .address) (some e) }

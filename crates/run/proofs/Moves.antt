@@ -1,6 +1,6 @@
 -- What each call that is done keeps: where every take of the period was right, what is held at an address has the value last set there. Assumes nothing.
 use mathlib.Core.Path.{_≡_, refl, sym, ap, _∙_}
-use mathlib.Core.Bool.{Bool, true, false, not, _&&_, _||_, false≢true}
+use mathlib.Core.Bool.{Bool, true, false, cond, not, _&&_, _||_, false≢true}
 use mathlib.Core.List.{List}
 use mathlib.Core.Option.{Option, none, some}
 use mathlib.Core.Logic.{_⊎_, inl, inr}
@@ -8,7 +8,7 @@ use Prim.Native.Nat.{ℕ}
 use lib.Dec.{eqb, ltb}
 use lib.ListN.{length}
 use borrow.Author.Tests.{eqb-true, ltb-true, ltb-false}
-use Rattle.refusal.specs.Refusal.{first, choose}
+use Rattle.refusal.specs.Refusal.{first}
 use Rattle.state.specs.Sizes.{addresses}
 use Rattle.state.specs.Marks.{used, marked, unmarked}
 use Rattle.state.specs.Cells.{Entry, valueAt, entryAt}
@@ -90,10 +90,10 @@ marks-status s l ws (bad c h k) = bad c h k
 marks-status s l ws (good b q) = good b q
 
 -- after the puts that open a period each address in use is held with the entry that opens it
-pub opened-held : (w : ℕ) (s : State) (m : List ℕ) → length (s .marks) ≡ 16 → (a : ℕ) → openL w s m addresses .held a ≡ choose (used (s .marks) a) (some (opening w m a)) none
+pub opened-held : (w : ℕ) (s : State) (m : List ℕ) → length (s .marks) ≡ 16 → (a : ℕ) → openL w s m addresses .held a ≡ cond (used (s .marks) a) (some (opening w m a)) none
 opened-held w s m sixteen a = go (used (s .marks) a) refl (ltb a addresses) refl
   where
-    go : (u : Bool) → used (s .marks) a ≡ u → (b : Bool) → ltb a addresses ≡ b → openL w s m addresses .held a ≡ choose (used (s .marks) a) (some (opening w m a)) none
+    go : (u : Bool) → used (s .marks) a ≡ u → (b : Bool) → ltb a addresses ≡ b → openL w s m addresses .held a ≡ cond (used (s .marks) a) (some (opening w m a)) none
     go u e true h = open-held w s m addresses a (ltb-true a addresses h)
     go true e false h = open-held w s m addresses a (used-below (s .marks) a sixteen e)
     go false e false h = open-above w s m addresses a (ltb-false a addresses h) ∙ rw e
@@ -180,9 +180,9 @@ module _ (w : ℕ) (tag : List ℕ → Entry → List ℕ) (s : State) (m : List
 
   -- ---- an accepted check
 
-  there-choose : (b : Bool) (e : Entry) → b ≡ there (choose b (some e) none)
-  there-choose true e = refl
-  there-choose false e = refl
+  there-cond : (b : Bool) (e : Entry) → b ≡ there (cond b (some e) none)
+  there-cond true e = refl
+  there-cond false e = refl
 
   vals-open : Vals l Set → Right w s m l addresses → Vals (openL w s m addresses) Set
   unfolding entryAt opening
@@ -201,7 +201,7 @@ module _ (w : ℕ) (tag : List ℕ → Entry → List ℕ) (s : State) (m : List
       record {
         fit =
             record {
-              marked = λ a. ap (λ (ws : List ℕ). used ws a) (o .marks) ∙ there-choose (used (s .marks) a) (opening w m a) ∙ ap there (sym (opened-held w s m (x .fit .sixteen) a));
+              marked = λ a. ap (λ (ws : List ℕ). used ws a) (o .marks) ∙ there-cond (used (s .marks) a) (opening w m a) ∙ ap there (sym (opened-held w s m (x .fit .sixteen) a));
               sixteen = ap length (o .marks) ∙ x .fit .sixteen;
             };
         status = go (x .status);

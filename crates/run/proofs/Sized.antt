@@ -24,7 +24,7 @@ use Rattle.state.proofs.Messages.{message-injective}
 use Rattle.run.specs.Calls.{Call, add, load, store, remove, check, look, count, lowest, Lent, step, events}
 use Rattle.run.specs.Demand3.{stateAfter, result, eventsOf}
 use Rattle.run.proofs.Lists.{by-last, place-stays, Each, each-none, each-more, each-both}
-use Rattle.run.proofs.Walk.{by-choose, each-used}
+use Rattle.run.proofs.Walk.{by-cond, each-used}
 use Rattle.state.proofs.Ready.{Ready, add-ready, use-ready, remove-ready, check-ready}
 use Rattle.run.proofs.Steps.{rowsOf, whenDone, by-call}
 use Rattle.run.proofs.Runs.{events-last}
@@ -86,7 +86,7 @@ module _ (w : ℕ) (one : 1 ≤ w) (tag : List ℕ → Entry → List ℕ) (T : 
       go check e =
           let size = check-ready w s m e .1 in
           let ts = each-used R (λ a. took (entryAt w m a)) (s .marks) addresses (λ a h. taken a h size) in
-          by-choose (λ (r : Step). Each R (r .events)) (agrees (takeBelow w tag s m addresses))
+          by-cond (λ (r : Step). Each R (r .events)) (agrees (takeBelow w tag s m addresses))
           (λ k. each-both R _ _ ts (each-more R accepted _ tt (each-used R (λ a. put (opening w m a)) (s .marks) addresses (opening-fits size))))
           (λ k. ts)
       go (look a) e = each-none R

@@ -26,7 +26,7 @@ use Rattle.run.specs.Demand3.{Differ, putIn, takenIn, Since, Sets, state
 use Rattle.run.proofs.Lists.{by-last, no-place, last-place, place-stays}
 use Rattle.run.proofs.Logs.{Log, noLog, noted, follow, since-now}
 use Rattle.run.proofs.Micro.{Status, good}
-use Rattle.run.proofs.Walk.{by-choose, takenL, opened-log, Right, Differs, check-tells}
+use Rattle.run.proofs.Walk.{by-cond, takenL, opened-log, Right, Differs, check-tells}
 use Rattle.state.proofs.Ready.{use-ready}
 use Rattle.run.proofs.Steps.{rowsOf, whenDone, by-call, step-done, done-number, number-done}
 use Rattle.run.proofs.Runs.{kind, sets-told, by-start, logOf, by-step, latest-here, latest-keeps}
@@ -41,7 +41,7 @@ pub accepts-agrees : (w : ℕ) (tag : List ℕ → Entry → List ℕ) (s : Stat
 unfolding acceptance rejection
 accepts-agrees w tag s m =
     by-call w tag s m (λ (r : Step). r .seen .verdict ≡ Accept → (first (rowsOf w s m check) ≡ 0) × (agrees (takeBelow w tag s m addresses) ≡ true)) check
-    (λ e. by-choose (λ (r : Step). r .seen .verdict ≡ Accept → (first (rowsOf w s m check) ≡ 0) × (agrees (takeBelow w tag s m addresses) ≡ true)) (agrees (takeBelow w tag s m addresses)) (λ k v. (e, k)) (λ k v. absurd (never v)))
+    (λ e. by-cond (λ (r : Step). r .seen .verdict ≡ Accept → (first (rowsOf w s m check) ≡ 0) × (agrees (takeBelow w tag s m addresses) ≡ true)) (agrees (takeBelow w tag s m addresses)) (λ k v. (e, k)) (λ k v. absurd (never v)))
     (λ n e v. absurd (silent v))
   where
     never : Reject ≡ Accept → ⊥
@@ -186,7 +186,7 @@ module _ (w : ℕ) (tag : List ℕ → Entry → List ℕ) (key : List ℕ) wher
       check-more : first (rowsOf w s m check) ≡ 0 → AllAt (run ++ (lent check m ∷ [])) (whenDone w tag s m check .seen .state) (follow l (whenDone w tag s m check .events))
       unfolding acceptance rejection shut
       check-more e =
-          by-choose (λ (r : Step). AllAt (run ++ (lent check m ∷ [])) (r .seen .state) (follow l (r .events))) (agrees (takeBelow w tag s m addresses))
+          by-cond (λ (r : Step). AllAt (run ++ (lent check m ∷ [])) (r .seen .state) (follow l (r .events))) (agrees (takeBelow w tag s m addresses))
           (λ k o. subst (Whole (run ++ (lent check m ∷ [])) (openBelow w tag s m addresses)) (sym (opened-log w s m l)) (quiet-all check refl refl _ _ _ (either k) (accepted-all w tag s m l _ _ _ (x check refl e) (agrees-tells (takeBelow w tag s m addresses) k .1))))
           (λ k o. absurd (true≢false o))
         where

@@ -1,9 +1,10 @@
 -- Each call of a run by its rows: what it gives where none of them holds, and where one does. Assumes nothing.
 use mathlib.Core.Path.{_≡_, refl, sym, ap, _∙_, subst}
+use mathlib.Core.Bool.{cond}
 use mathlib.Core.List.{List, []}
 use Prim.Native.Nat.{ℕ, zero, suc}
 use native.Mathlib.Omega.{arith}
-use Rattle.refusal.specs.Refusal.{Row, first, choose, done}
+use Rattle.refusal.specs.Refusal.{Row, first, done}
 use Rattle.state.specs.Sizes.{addresses}
 use Rattle.state.specs.Cells.{Entry}
 use Rattle.state.specs.Step.{seen, Step}
@@ -12,7 +13,7 @@ use Rattle.state.specs.Check.{checkRows, agrees, takeBelow, acceptance, rejecti
 use Rattle.state.specs.declared.State.{State}
 use Rattle.state.specs.declared.Verdict.the-variants.{Nothing}
 use Rattle.run.specs.Calls.{Call, add, load, store, remove, check, look, count, lowest, idle, step}
-use Rattle.run.proofs.Walk.{by-choose}
+use Rattle.run.proofs.Walk.{by-cond}
 
 -- the rows of a call, the out buffer that it is lent, and what it gives where no row holds
 abbrev pub rowsOf : ℕ → State → List ℕ → Call → List Row
@@ -44,7 +45,7 @@ module _ (w : ℕ) (tag : List ℕ → Entry → List ℕ) (s : State) (m : List
   whenDone (load a o) = loaded w tag s m a
   whenDone (store a v) = stored w tag s m a v
   whenDone (remove a) = removed w tag s m a
-  whenDone check = choose (agrees (takeBelow w tag s m addresses)) (acceptance w tag s m) (rejection w tag s m)
+  whenDone check = cond (agrees (takeBelow w tag s m addresses)) (acceptance w tag s m) (rejection w tag s m)
   whenDone (look a) = idle s m
   whenDone count = idle s m
   whenDone lowest = idle s m
@@ -81,7 +82,7 @@ module _ (w : ℕ) (tag : List ℕ → Entry → List ℕ) (s : State) (m : List
       go (load a o) = refl
       go (store a v) = refl
       go (remove a) = refl
-      go check = by-choose (λ (r : Step). r .seen .number ≡ 0) (agrees (takeBelow w tag s m addresses)) (λ k. refl) (λ k. refl)
+      go check = by-cond (λ (r : Step). r .seen .number ≡ 0) (agrees (takeBelow w tag s m addresses)) (λ k. refl) (λ k. refl)
       go (look a) = refl
       go count = refl
       go lowest = refl

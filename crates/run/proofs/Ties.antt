@@ -17,7 +17,7 @@ use Rattle.run.specs.Calls.{Call, add, load, store, remove, check, look,
 use Rattle.run.specs.Demand3.{stateAfter, result, eventsOf, Accepts}
 use Rattle.run.proofs.Lists.{by-last, place-in, no-place, place-stays, Each, each-none, each-more}
 use Rattle.run.proofs.Logs.{isAccepted}
-use Rattle.run.proofs.Walk.{by-choose, each-used}
+use Rattle.run.proofs.Walk.{by-cond, each-used}
 use Rattle.run.proofs.Steps.{whenDone, by-call, step-done}
 use Rattle.run.proofs.Runs.{events-append, events-last}
 use Rattle.run.proofs.Sound.{accepts-agrees}
@@ -65,7 +65,7 @@ module _ (w : ℕ) (tag : List ℕ → Entry → List ℕ) (s : State) (m : List
       go (store a v) h = absurd (none _ (each-more Plain _ _ refl (two _ _ refl refl)) h)
       go (remove a) h = absurd (none _ (two _ _ refl refl) h)
       go check h =
-          by-choose (λ (r : Step). r .events ≡ p ++ (accepted ∷ q) → (check ≡ check) × (r .seen .verdict ≡ Accept) × (p ≡ takes w s m)) (agrees (takeBelow w tag s m addresses))
+          by-cond (λ (r : Step). r .events ≡ p ++ (accepted ∷ q) → (check ≡ check) × (r .seen .verdict ≡ Accept) × (p ≡ takes w s m)) (agrees (takeBelow w tag s m addresses))
           (λ k h. (refl, refl, at-end (place-in (takes w s m) (accepted ∷ puts w s m) p accepted q h)))
           (λ k h. absurd (none (takes w s m) plain-takes h)) h
       go (look a) h = absurd (no-place p accepted q h)

@@ -22,7 +22,7 @@ use Rattle.run.specs.Exact.{tick, clockAfter}
 use Rattle.run.proofs.Lists.{by-last}
 use Rattle.run.proofs.Logs.{Log, noLog, noted, follow}
 use Rattle.run.proofs.Micro.{Hashed, take-hashed, put-hashed}
-use Rattle.run.proofs.Walk.{by-choose}
+use Rattle.run.proofs.Walk.{by-cond}
 use Rattle.run.proofs.Steps.{whenDone, by-call}
 use Rattle.run.proofs.Runs.{by-start, logOf, by-events}
 use Rattle.run.proofs.Always.{closed-step}
@@ -106,7 +106,7 @@ module _ (tag : List ℕ → Entry → List ℕ) where
     unfolding takeBelow takeEntry
     taken-calm zero h = h
     taken-calm (suc n) h =
-        by-choose (λ (x : State). x .fault ≡ false → s .fault ≡ false) (used (s .marks) n)
+        by-cond (λ (x : State). x .fault ≡ false → s .fault ≡ false) (used (s .marks) n)
         (λ u k. taken-calm n (neither (takeBelow w tag s m n .fault) (ltb (takeBelow w tag s m n .clock) (entryAt w m n .stamp)) k .0))
         (λ u k. taken-calm n k) h
 
@@ -114,7 +114,7 @@ module _ (tag : List ℕ → Entry → List ℕ) where
     taken-opens : (n : ℕ) → moved (takeBelow w tag s m n) accepted ≡ moved s accepted
     unfolding takeBelow takeEntry moved
     taken-opens zero = refl
-    taken-opens (suc n) = by-choose (λ (x : State). moved x accepted ≡ moved s accepted) (used (s .marks) n) (λ u. taken-opens n) (λ u. taken-opens n)
+    taken-opens (suc n) = by-cond (λ (x : State). moved x accepted ≡ moved s accepted) (used (s .marks) n) (λ u. taken-opens n) (λ u. taken-opens n)
 
     acceptance-told : agrees (takeBelow w tag s m addresses) ≡ true → openBelow w tag s m addresses ≡ told s (takes w s m ++ (accepted ∷ puts w s m))
     unfolding opened moved
@@ -138,7 +138,7 @@ module _ (tag : List ℕ → Entry → List ℕ) where
         go (store a v) o = (_, refl)
         go (remove a) o = (_, refl)
         go check o =
-            by-choose (λ (r : Step). r .seen .state .closed ≡ false → Like (r .seen .state) (told s (r .events))) (agrees (takeBelow w tag s m addresses))
+            by-cond (λ (r : Step). r .seen .state .closed ≡ false → Like (r .seen .state) (told s (r .events))) (agrees (takeBelow w tag s m addresses))
             (λ k o. (_, acceptance-told k)) (λ k o. absurd (true≢false o)) o
         go (look a) o = (_, refl)
         go count o = (_, refl)

@@ -1,7 +1,7 @@
 -- A check's takes and the puts that open the next period, address by address: each is a take or a put of its own address, so the rest is as it was.
 -- Assumes nothing.
 use mathlib.Core.Path.{_≡_, refl, sym, ap, _∙_, subst}
-use mathlib.Core.Bool.{Bool, true, false, false≢true}
+use mathlib.Core.Bool.{Bool, true, false, cond, false≢true}
 use mathlib.Core.List.{List, [], _∷_, _++_, foldl-append}
 use mathlib.Core.Option.{Option, none, some}
 use mathlib.Core.Logic.{_⊎_, inl, inr, _≢_}
@@ -9,7 +9,6 @@ use Prim.Native.Nat.{ℕ, zero, suc, _+_, _≤_, _<_}
 use native.Mathlib.Omega.{arith}
 use lib.Dec.{eqb}
 use borrow.Author.Tests.{eqb-true, eqb-false, eq-eqb, ne-eqb}
-use Rattle.refusal.specs.Refusal.{choose}
 use Rattle.state.specs.Sizes.{addresses}
 use Rattle.state.specs.Marks.{used}
 use Rattle.state.specs.Cells.{Entry, entryAt}
@@ -25,13 +24,13 @@ use Rattle.run.proofs.Logs.{Log, upd, putL, takeL, noLog, noted, follow
 use Rattle.run.proofs.Balance.{upd-same, upd-other, heldTimes, Balance, put-balance}
 use Rattle.run.proofs.Micro.{Stamps, Hashed, Status, faulty, bad, good, status-map, take-hashed, take-status}
 
-pub by-choose : {A : Type 0} (P : A → Type 0) (b : Bool) {x y : A} → (b ≡ true → P x) → (b ≡ false → P y) → P (choose b x y)
-by-choose P true p q = p refl
-by-choose P false p q = q refl
+pub by-cond : {A : Type 0} (P : A → Type 0) (b : Bool) {x y : A} → (b ≡ true → P x) → (b ≡ false → P y) → P (cond b x y)
+by-cond P true p q = p refl
+by-cond P false p q = q refl
 
-pub by-choose₂ : {A B : Type 0} (P : A → B → Type 0) (b : Bool) {x y : A} {u v : B} → (b ≡ true → P x u) → (b ≡ false → P y v) → P (choose b x y) (choose b u v)
-by-choose₂ P true p q = p refl
-by-choose₂ P false p q = q refl
+pub by-cond₂ : {A B : Type 0} (P : A → B → Type 0) (b : Bool) {x y : A} {u v : B} → (b ≡ true → P x u) → (b ≡ false → P y v) → P (cond b x y) (cond b u v)
+by-cond₂ P true p q = p refl
+by-cond₂ P false p q = q refl
 
 pub below-suc : (a n : ℕ) → a < suc n → (a ≡ n) ⊎ (a < n)
 below-suc a n h = go (eqb a n) refl
@@ -43,14 +42,14 @@ below-suc a n h = go (eqb a n) refl
 -- what an event at each address in use below n leaves written down
 unfoldable pub walk : (ℕ → Event) → List ℕ → Log → ℕ → Log
 walk x ws l zero = l
-walk x ws l (suc n) = choose (used ws n) (noted (walk x ws l n) (x n)) (walk x ws l n)
+walk x ws l (suc n) = cond (used ws n) (noted (walk x ws l n) (x n)) (walk x ws l n)
 
 pub each-used : (P : Event → Type 0) (x : ℕ → Event) (ws : List ℕ) (n : ℕ) → ((a : ℕ) → a < n → P (x a)) → Each P (inUse x ws n)
 unfolding inUse
 each-used P x ws zero h = each-none P
 each-used P x ws (suc n) h =
-    each-both P (inUse x ws n) (choose (used ws n) (x n ∷ []) []) (each-used P x ws n (λ a k. h a (omega arith)))
-    (by-choose (Each P) (used ws n) (λ u. each-more P (x n) [] (h n (omega arith)) (each-none P)) (λ u. each-none P))
+    each-both P (inUse x ws n) (cond (used ws n) (x n ∷ []) []) (each-used P x ws n (λ a k. h a (omega arith)))
+    (by-cond (Each P) (used ws n) (λ u. each-more P (x n) [] (h n (omega arith)) (each-none P)) (λ u. each-none P))
 
 cleared : (g : ℕ → Option Entry) (n a : ℕ) → g a ≡ none → upd g n none a ≡ none
 cleared g n a e = go (eqb a n) refl
@@ -81,13 +80,13 @@ module _ (w : ℕ) (s : State) (m : List ℕ) where
     pub taken-puts : (n : ℕ) → takenL l n .puts ≡ l .puts
     unfolding walk noted takeL
     taken-puts zero = refl
-    taken-puts (suc n) = by-choose (λ (x : Log). x .puts ≡ l .puts) (used (s .marks) n) (λ e. taken-puts n) (λ e. taken-puts n)
+    taken-puts (suc n) = by-cond (λ (x : Log). x .puts ≡ l .puts) (used (s .marks) n) (λ e. taken-puts n) (λ e. taken-puts n)
 
     pub taken-above : (n a : ℕ) → n ≤ a → takenL l n .held a ≡ l .held a
     unfolding walk noted takeL entryAt
     taken-above zero a h = refl
     taken-above (suc n) a h =
-        by-choose (λ (x : Log). x .held a ≡ l .held a) (used (s .marks) n)
+        by-cond (λ (x : Log). x .held a ≡ l .held a) (used (s .marks) n)
         (λ e. upd-other (takenL l n .held) n none a (ne-eqb a n (λ q. omega arith)) ∙ taken-above n a (omega arith))
         (λ e. taken-above n a (omega arith))
 
@@ -95,7 +94,7 @@ module _ (w : ℕ) (s : State) (m : List ℕ) where
     pub taken-none : (n a : ℕ) → l .held a ≡ none → takenL l n .held a ≡ none
     unfolding walk noted takeL entryAt
     taken-none zero a e = e
-    taken-none (suc n) a e = by-choose (λ (x : Log). x .held a ≡ none) (used (s .marks) n) (λ u. cleared (takenL l n .held) n a (taken-none n a e)) (λ u. taken-none n a e)
+    taken-none (suc n) a e = by-cond (λ (x : Log). x .held a ≡ none) (used (s .marks) n) (λ u. cleared (takenL l n .held) n a (taken-none n a e)) (λ u. taken-none n a e)
 
     pub taken-gone : (n a : ℕ) → a < n → used (s .marks) a ≡ true → takenL l n .held a ≡ none
     unfolding walk noted takeL entryAt
@@ -104,10 +103,10 @@ module _ (w : ℕ) (s : State) (m : List ℕ) where
       where
         go : (a ≡ n) ⊎ (a < n) → (a < n → used (s .marks) a ≡ true → takenL l n .held a ≡ none) → takenL l (suc n) .held a ≡ none
         go (inl e) ih =
-            by-choose (λ (x : Log). x .held a ≡ none) (used (s .marks) n)
+            by-cond (λ (x : Log). x .held a ≡ none) (used (s .marks) n)
             (λ v. upd-same (takenL l n .held) n none a (eq-eqb a n e))
             (λ v. absurd (false≢true (sym v ∙ ap (used (s .marks)) (sym e) ∙ u)))
-        go (inr k) ih = by-choose (λ (x : Log). x .held a ≡ none) (used (s .marks) n) (λ v. cleared (takenL l n .held) n a (ih k u)) (λ v. ih k u)
+        go (inr k) ih = by-cond (λ (x : Log). x .held a ≡ none) (used (s .marks) n) (λ v. cleared (takenL l n .held) n a (ih k u)) (λ v. ih k u)
 
     -- the cells of the addresses in use below n are as they were left
     abbrev pub Right : ℕ → Type 0
@@ -129,19 +128,19 @@ module _ (w : ℕ) (s : State) (m : List ℕ) where
   pub open-takes : (n : ℕ) → openL n .takes ≡ []
   unfolding walk noted putL noLog
   open-takes zero = refl
-  open-takes (suc n) = by-choose (λ (x : Log). x .takes ≡ []) (used (s .marks) n) (λ e. open-takes n) (λ e. open-takes n)
+  open-takes (suc n) = by-cond (λ (x : Log). x .takes ≡ []) (used (s .marks) n) (λ e. open-takes n) (λ e. open-takes n)
 
   pub open-above : (n a : ℕ) → n ≤ a → openL n .held a ≡ none
   unfolding walk noted putL noLog opening
   open-above zero a h = refl
   open-above (suc n) a h =
-      by-choose (λ (x : Log). x .held a ≡ none) (used (s .marks) n)
+      by-cond (λ (x : Log). x .held a ≡ none) (used (s .marks) n)
       (λ e. upd-other (openL n .held) n (some (opening w m n)) a (ne-eqb a n (λ q. omega arith)) ∙ open-above n a (omega arith))
       (λ e. open-above n a (omega arith))
 
   -- an address in use is held with the entry that opens it, and another is not held
   abbrev pub Opened : ℕ → Option Entry → Type 0
-  Opened a o = o ≡ choose (used (s .marks) a) (some (opening w m a)) none
+  Opened a o = o ≡ cond (used (s .marks) a) (some (opening w m a)) none
 
   pub open-held : (n a : ℕ) → a < n → Opened a (openL n .held a)
   unfolding walk noted putL opening
@@ -151,23 +150,23 @@ module _ (w : ℕ) (s : State) (m : List ℕ) where
       go : (b : Bool) → eqb a n ≡ b → (a < n → Opened a (openL n .held a)) → Opened a (openL (suc n) .held a)
       go true e ih =
           let back : (o : Option Entry) → Opened n o → Opened a o = λ o h. subst (λ (x : ℕ). Opened x o) (sym (eqb-true a n e)) h in
-          by-choose (λ (x : Log). Opened a (x .held a)) (used (s .marks) n)
+          by-cond (λ (x : Log). Opened a (x .held a)) (used (s .marks) n)
           (λ u. upd-same (openL n .held) n (some (opening w m n)) a e ∙ back (some (opening w m n)) (rw u))
           (λ u. open-above n a (omega (arith, eqb-true a n e)) ∙ back none (rw u))
       go false e ih =
           let d : a ≢ n = eqb-false a n e in
-          by-choose (λ (x : Log). Opened a (x .held a)) (used (s .marks) n) (λ u. upd-other (openL n .held) n (some (opening w m n)) a e ∙ ih (omega arith)) (λ u. ih (omega arith))
+          by-cond (λ (x : Log). Opened a (x .held a)) (used (s .marks) n) (λ u. upd-other (openL n .held) n (some (opening w m n)) a e ∙ ih (omega arith)) (λ u. ih (omega arith))
 
   pub open-balance : (n : ℕ) → Balance (openL n)
   unfolding walk noted noLog times opening
   open-balance zero = λ c. refl
-  open-balance (suc n) = by-choose Balance (used (s .marks) n) (λ e. put-balance (openL n) (opening w m n) (open-balance n) (open-above n n (omega arith))) (λ e. open-balance n)
+  open-balance (suc n) = by-cond Balance (used (s .marks) n) (λ e. put-balance (openL n) (opening w m n) (open-balance n) (open-above n n (omega arith))) (λ e. open-balance n)
 
   open-later : (c : Entry) → 1 < c .stamp → (n : ℕ) → times c (openL n .puts) ≡ 0
   unfolding walk noted putL noLog times opening
   open-later c h zero = refl
   open-later c h (suc n) =
-      by-choose (λ (x : Log). times c (x .puts) ≡ 0) (used (s .marks) n)
+      by-cond (λ (x : Log). times c (x .puts) ≡ 0) (used (s .marks) n)
       (λ e. times-last c (openL n .puts) (opening w m n) ∙ go (sameEntry c (opening w m n)) refl (open-later c h n))
       (λ e. open-later c h n)
     where
@@ -195,14 +194,14 @@ module _ (w : ℕ) (s : State) (m : List ℕ) where
     pub taken-hashed : (l : Log) → Hashed tag s l → (n : ℕ) → Hashed tag (takeBelow w tag s m n) (takenL l n)
     unfolding takeBelow walk noted
     taken-hashed l h zero = h
-    taken-hashed l h (suc n) = by-choose₂ (Hashed tag) (used (s .marks) n) (λ e. take-hashed tag _ _ (entryAt w m n) (taken-hashed l h n)) (λ e. taken-hashed l h n)
+    taken-hashed l h (suc n) = by-cond₂ (Hashed tag) (used (s .marks) n) (λ e. take-hashed tag _ _ (entryAt w m n) (taken-hashed l h n)) (λ e. taken-hashed l h n)
 
     taken-status : {Q : Type 0} (l : Log) → Status s l Q → (n : ℕ) → Status (takeBelow w tag s m n) (takenL l n) (Q × Right l n)
     unfolding takeBelow walk noted entryAt
     taken-status {Q} l st zero = status-map (λ q. (q, λ a h u. absurd (omega arith))) st
     taken-status {Q} l st (suc n) =
         let ih = taken-status l st n in
-        by-choose₂ (λ (x : State) (y : Log). Status x y (Q × Right l (suc n))) (used (s .marks) n)
+        by-cond₂ (λ (x : State) (y : Log). Status x y (Q × Right l (suc n))) (used (s .marks) n)
         (λ e. status-map (λ t. (t .0 .0, right-suc l n (t .0 .1) (λ u. sym (taken-above l n n (omega arith)) ∙ t .1))) (take-status tag (takeBelow w tag s m n) (takenL l n) (entryAt w m n) ih))
         (λ e. status-map (λ t. (t .0, right-suc l n (t .1) (λ u. absurd (false≢true (sym e ∙ u))))) ih)
 

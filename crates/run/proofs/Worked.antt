@@ -4,11 +4,11 @@ use mathlib.Core.List.{List, [], _∷_}
 use Prim.Native.Nat.{ℕ, _+_}
 use lib.ListN.{take, replicate, getD}
 use Rattle.octets.specs.Layout.{total, join, split, number, bytes}
-use Rattle.octets.specs.Places.{xor}
+use Rattle.octets.specs.Places.{xor, same}
 use Rattle.state.specs.Sizes.{keySize, addresses, valueSize, cellSize, storeSize, ceiling}
 use Rattle.state.specs.Marks.{used, marked}
 use Rattle.state.specs.Cells.{Entry, valueAt, stampAt, entryAt, writeCell, writeEntry}
-use Rattle.state.specs.Multiset.{emptyHash, withTag, same, sameHash}
+use Rattle.state.specs.Multiset.{emptyHash, withTag, sameHash}
 use Rattle.state.specs.Start.{fresh, startOf}
 use Rattle.state.specs.Step.{withMarks, shut, next, takeEntry, putEntry}
 use Rattle.state.specs.Moves.{addRows, useRows, call, added, addOf, loaded, loadOf, stored, storeOf}

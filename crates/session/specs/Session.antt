@@ -1,10 +1,10 @@
 -- 01, "The bench program": what a whole session prints.
 -- Assumes nothing.
+use mathlib.Core.Bool.{cond}
 use mathlib.Core.List.{List, [], _∷_, _++_}
 use Prim.Native.Nat.{ℕ}
 use lib.Dec.{ltb}
 use lib.ListN.{length, replicate}
-use Rattle.refusal.specs.Refusal.{choose}
 use Rattle.text.specs.Text.{ascii}
 use Rattle.lines.specs.Grammar.{linesIn}
 use Rattle.lines.specs.Parse.{parsed}
@@ -25,7 +25,7 @@ limit = 4096
 
 unfoldable pub sessionOf : List ℕ → List ℕ
 sessionOf input =
-    choose (ltb limit (length input)) (ascii "too long\n")
+    cond (ltb limit (length input)) (ascii "too long\n")
     (outputOf (startOf (replicate keySize 0) .state) (replicate (storeSize width) 0) (linesIn input))
 
 -- the bytes of the buffer that a session is printed to

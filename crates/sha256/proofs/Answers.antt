@@ -1,6 +1,6 @@
 -- What the calls give, by the sizes of what they are given: a call with one row is refused where the row holds, and else done. Assumes nothing.
 use mathlib.Core.Path.{_≡_, sym, ap, _∙_}
-use mathlib.Core.Bool.{Bool, true, false, _||_, or-true}
+use mathlib.Core.Bool.{Bool, true, false, cond, _||_, or-true}
 use mathlib.Core.List.{List, [], _∷_}
 use Prim.Native.Nat.{ℕ, suc, _<_, _≤_}
 use lib.Dec.{leb, ltb}
@@ -9,16 +9,16 @@ use borrow.Author.Tests.{le-leb, lt-ltb, le-ltb, eq-eqb, ne-eqb}
 use Rattle.constants.specs.Constants.{H0}
 use Rattle.lent.specs.Lent.{copied}
 use Rattle.lent.proofs.Copied.{copied-all}
-use Rattle.refusal.specs.Refusal.{when, choose, filled, fills}
+use Rattle.refusal.specs.Refusal.{when, filled, fills}
 use Rattle.sha256.specs.Sha256.{hashBytes, sha256, finished, not32, digestOf}
 use Rattle.sha256.proofs.Blocks.{sha256-finished}
 use Rattle.sha256.proofs.Output.{sha256-length}
 
 -- ---- a rest, and a message, that are not too long
-pub finish-short : (m x y : List ℕ) → length m ≤ 8192 → choose (leb (length m) 8192) x y ≡ x
+pub finish-short : (m x y : List ℕ) → length m ≤ 8192 → cond (leb (length m) 8192) x y ≡ x
 finish-short m x y l = rw (le-leb (length m) 8192 l)
 
-pub sha256-calls : (m h s d : List ℕ) → length m ≤ 8192 → h ≡ H0 → s ≡ choose (leb (length m) 8192) (finished h 0 m) h → d ≡ hashBytes s → d ≡ sha256 m
+pub sha256-calls : (m h s d : List ℕ) → length m ≤ 8192 → h ≡ H0 → s ≡ cond (leb (length m) 8192) (finished h 0 m) h → d ≡ hashBytes s → d ≡ sha256 m
 sha256-calls m h s d l eh es ed = ed ∙ ap hashBytes (es ∙ finish-short m _ _ l ∙ ap (λ (k : List ℕ). finished k 0 m) eh) ∙ sym (sha256-finished m)
 
 -- ---- a call with one row, which fills out

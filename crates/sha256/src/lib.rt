@@ -1,11 +1,12 @@
 // SHA-256 of FIPS 180-4: the padding of a message, and its digest. The message is read where it lies.
 ghost use mathlib.Core.Path.{_≡_};
+ghost use mathlib.Core.Bool.{cond};
 ghost use mathlib.Core.List.{[], _∷_, _++_};
 ghost use Prim.Native.Nat.{_+_, _*_, _/_, _%_, _^_, _<_, _≤_};
 ghost use lib.Dec.{leb};
 ghost use lib.ListN.{length, getD};
 ghost use Rattle.octets.specs.Layout.{number};
-ghost use Rattle.refusal.specs.Refusal.{choose, filled};
+ghost use Rattle.refusal.specs.Refusal.{filled};
 ghost use Rattle.sha256.specs.Sha256.{padded, word, block, absorbed, hashBytes, finished, digestOf};
 
 // The number that four bytes are.
@@ -92,7 +93,7 @@ pub fn absorb(h: [u32; 8], b: [u8; 64]) -> [u32; 8]
 
 // The hash after the rest of a message whose first blocks, as many as before, gave h; h itself where the rest has more than 8,192 bytes.
 pub fn finish(h: [u32; 8], before: u16, rest: &[u8]) -> [u32; 8]
-    ensures { λ r. ⌜ r ≡ choose (leb (length (now (rest .entry))) 8192) (finished h before (now (rest .entry))) h ⌝ }
+    ensures { λ r. ⌜ r ≡ cond (leb (length (now (rest .entry))) 8192) (finished h before (now (rest .entry))) h ⌝ }
 {
     if rest.len() > 8192 {
         return h;

@@ -1,7 +1,7 @@
 -- Cells do not meet: a write to one leaves every part of the store before it and past it as it was. Assumes nothing.
 use mathlib.Core.Path.{_≡_, refl, sym, ap, ap₂, _∙_}
 use mathlib.Core.Logic.{_⊎_, inl, inr, ⊎-elim}
-use mathlib.Core.Bool.{Bool, true, false}
+use mathlib.Core.Bool.{Bool, true, false, cond}
 use mathlib.Core.List.{List, [], _∷_, _++_, append-assoc}
 use Prim.Native.Nat.{ℕ, zero, suc, _+_, _-_, _*_, _/_, _%_, _^_, _≤_, _<_}
 use native.Mathlib.Nat.{mul-le-mul-left, mul-suc}
@@ -14,7 +14,6 @@ use lib.Seq.{length-take-le, take-append-le, drop-append-le, take-at, drop-at, d
 use Rattle.octets.specs.Layout.{number, bytes}
 use Rattle.octets.proofs.Layouts.{bytes-length, number-bytes, pow-bytes, bytes-2, number-2}
 use Rattle.state.specs.Sizes.{addresses, valueSize, cellSize, storeSize}
-use Rattle.refusal.specs.Refusal.{choose}
 use Rattle.state.specs.Marks.{used}
 use Rattle.state.specs.Cells.{entry, valueAt, stampAt, entryAt, writeCell, writeEntry}
 use Rattle.state.specs.Check.{opening, putBelow}
@@ -130,7 +129,7 @@ stamp-read m n h =
 -- ---- the store after an accepted check
 
 puts-step : (b : Bool) (w : ℕ) (x m : List ℕ) (n : ℕ) → n < addresses → length m ≡ storeSize w → length x ≡ storeSize w
-    → length (choose b (writeEntry w x (opening w m n)) x) ≡ storeSize w
+    → length (cond b (writeEntry w x (opening w m n)) x) ≡ storeSize w
 unfolding writeEntry opening
 puts-step true w x m n h l k = write-length w x n (valueAt w m n) 1 h k (value-length w m n h l)
 puts-step false w x m n h l k = k
@@ -141,7 +140,7 @@ puts-length w ws m zero h l = l
 puts-length w ws m (suc n) h l = puts-step (used ws n) w (putBelow w ws m n) m n h l (puts-length w ws m n (omega arith) l)
 
 beyond-step : (b : Bool) (w : ℕ) (x m : List ℕ) (n a : ℕ) → n < addresses → n < a → length m ≡ storeSize w → length x ≡ storeSize w
-    → valueAt w (choose b (writeEntry w x (opening w m n)) x) a ≡ valueAt w x a
+    → valueAt w (cond b (writeEntry w x (opening w m n)) x) a ≡ valueAt w x a
 unfolding writeEntry opening
 beyond-step true w x m n a h g l k = value-other w x n (valueAt w m n) 1 h k (value-length w m n h l) a (λ e. absurd (omega arith))
 beyond-step false w x m n a h g l k = refl

@@ -1,7 +1,7 @@
 -- What each call does to the state, every field of it, one short law for each sentence of the moves: by computation, or address by address.
 -- Assumes nothing.
 use mathlib.Core.Path.{_≡_, refl, sym, ap, _∙_}
-use mathlib.Core.Bool.{Bool, true, false, not, _||_, or-true}
+use mathlib.Core.Bool.{Bool, true, false, cond, not, _||_, or-true}
 use mathlib.Core.List.{List, [], _∷_, _++_, append-assoc, foldl, foldl-append}
 use mathlib.Core.Logic.{_⊎_, inl, inr}
 use Prim.Native.Nat.{ℕ, zero, suc, _+_, _<_}
@@ -9,7 +9,7 @@ use native.Mathlib.Omega.{arith}
 use lib.Dec.{eqb, ltb}
 use lib.ListN.{replicate}
 use borrow.Author.Tests.{eqb-true, eqb-false, ltb-true, lt-ltb, not-true}
-use Rattle.refusal.specs.Refusal.{first, choose, done}
+use Rattle.refusal.specs.Refusal.{first, done}
 use Rattle.state.specs.Sizes.{addresses, valueSize}
 use Rattle.state.specs.Marks.{used, marked, unmarked}
 use Rattle.state.specs.Cells.{Entry, entry, valueAt, stampAt, entryAt, writeCell, writeEntry}
@@ -19,7 +19,7 @@ use Rattle.state.specs.Moves.{call, added, loaded, stored, removed}
 use Rattle.state.specs.Check.{checkRows, inUse, opened, opening, agrees, takes, puts, takeBelow, openBelow, acceptance, rejection, checkOf}
 use Rattle.state.specs.declared.State.{State}
 use Rattle.state.specs.declared.Verdict.the-variants.{Accept, Nothing}
-use Rattle.state.proofs.Marks.{both}
+use Rattle.octets.proofs.Same.{both}
 use Rattle.state.proofs.Multiset.{sameHash-true, equal-sameHash}
 
 -- ---- 01, Take and Put
@@ -93,12 +93,12 @@ module _ (w : ℕ) (tag : List ℕ → Entry → List ℕ) (s : State) (m : List
   pub accepts-tells : first (checkRows w s m) ≡ 0 → checkOf w tag s m .seen .verdict ≡ Accept
       → (takeBelow w tag s m addresses .put ≡ takeBelow w tag s m addresses .take) × (takeBelow w tag s m addresses .fault ≡ false)
   unfolding checkOf call acceptance rejection
-  accepts-tells e v = go (agrees t) refl (sym (ap (λ (n : ℕ). done n (choose (agrees t) (acceptance w tag s m) (rejection w tag s m)) (step (seen n Nothing s m []) []) .seen .verdict) e) ∙ v)
+  accepts-tells e v = go (agrees t) refl (sym (ap (λ (n : ℕ). done n (cond (agrees t) (acceptance w tag s m) (rejection w tag s m)) (step (seen n Nothing s m []) []) .seen .verdict) e) ∙ v)
     where
       t : State
       t = takeBelow w tag s m addresses
 
-      go : (b : Bool) → agrees t ≡ b → choose b (acceptance w tag s m) (rejection w tag s m) .seen .verdict ≡ Accept → (t .put ≡ t .take) × (t .fault ≡ false)
+      go : (b : Bool) → agrees t ≡ b → cond b (acceptance w tag s m) (rejection w tag s m) .seen .verdict ≡ Accept → (t .put ≡ t .take) × (t .fault ≡ false)
       go true h k = agrees-tells t h
       go false h k = let y : _≡_ {A = ℕ} 0 1 = cc in absurd (omega arith)
 
@@ -121,7 +121,7 @@ module _ (w : ℕ) (tag : List ℕ → Entry → List ℕ) (s : State) (m : List
   opens-below zero = record { key = refl; take = refl; clock = refl; fault = refl; closed = refl; marks = refl }
   opens-below (suc n) = go (used (s .marks) n) (opens-below n)
     where
-      go : (b : Bool) → Opens (openBelow w tag s m n) → Opens (choose b (putEntry tag (openBelow w tag s m n) (opening w m n)) (openBelow w tag s m n))
+      go : (b : Bool) → Opens (openBelow w tag s m n) → Opens (cond b (putEntry tag (openBelow w tag s m n) (opening w m n)) (openBelow w tag s m n))
       go true h = record { key = h .key; take = h .take; clock = refl; fault = h .fault; closed = h .closed; marks = h .marks }
       go false h = h
 
@@ -149,7 +149,7 @@ used-place x ws zero a h u = absurd (omega arith)
 used-place {A} x ws (suc n) a h u = go (eqb a n) refl (used-place x ws n a)
   where
     go : (b : Bool) → eqb a n ≡ b → (a < n → used ws a ≡ true → (p : List A) × (q : List A) × (inUse x ws n ≡ p ++ (x a ∷ q)))
-        → (p : List A) × (q : List A) × (inUse x ws n ++ choose (used ws n) (x n ∷ []) [] ≡ p ++ (x a ∷ q))
+        → (p : List A) × (q : List A) × (inUse x ws n ++ cond (used ws n) (x n ∷ []) [] ≡ p ++ (x a ∷ q))
     go true e ih =
         let k = eqb-true a n e in
         let y : used ws n ≡ true = ap (used ws) (sym k) ∙ u in
@@ -157,16 +157,16 @@ used-place {A} x ws (suc n) a h u = go (eqb a n) refl (used-place x ws n a)
     go false e ih =
         let k : (a ≡ n) → ⊥ = eqb-false a n e in
         let r = ih (omega arith) u in
-        (r .0, r .1 ++ choose (used ws n) (x n ∷ []) [], ap (λ (l : List A). l ++ choose (used ws n) (x n ∷ []) []) (r .2) ∙ append-assoc (r .0) (x a ∷ r .1) (choose (used ws n) (x n ∷ []) []))
+        (r .0, r .1 ++ cond (used ws n) (x n ∷ []) [], ap (λ (l : List A). l ++ cond (used ws n) (x n ∷ []) []) (r .2) ∙ append-assoc (r .0) (x a ∷ r .1) (cond (used ws n) (x n ∷ []) []))
 
 -- what goes from address to address, by x at each that is in use, is made of these one after the other
-pub fold-used : {S A : Type 0} (f : S → A → S) (x : ℕ → A) (ws : List ℕ) (g : ℕ → S) → ((n : ℕ) → g (suc n) ≡ choose (used ws n) (f (g n) (x n)) (g n)) → (n : ℕ)
+pub fold-used : {S A : Type 0} (f : S → A → S) (x : ℕ → A) (ws : List ℕ) (g : ℕ → S) → ((n : ℕ) → g (suc n) ≡ cond (used ws n) (f (g n) (x n)) (g n)) → (n : ℕ)
     → g n ≡ foldl f (g 0) (inUse x ws n)
 unfolding inUse
 fold-used f x ws g h zero = refl
-fold-used {S} f x ws g h (suc n) = h n ∙ go (used ws n) (fold-used f x ws g h n) ∙ sym (foldl-append f (g 0) (inUse x ws n) (choose (used ws n) (x n ∷ []) []))
+fold-used {S} f x ws g h (suc n) = h n ∙ go (used ws n) (fold-used f x ws g h n) ∙ sym (foldl-append f (g 0) (inUse x ws n) (cond (used ws n) (x n ∷ []) []))
   where
-    go : (b : Bool) → g n ≡ foldl f (g 0) (inUse x ws n) → choose b (f (g n) (x n)) (g n) ≡ foldl f (foldl f (g 0) (inUse x ws n)) (choose b (x n ∷ []) [])
+    go : (b : Bool) → g n ≡ foldl f (g 0) (inUse x ws n) → cond b (f (g n) (x n)) (g n) ≡ foldl f (foldl f (g 0) (inUse x ws n)) (cond b (x n ∷ []) [])
     go true e = ap (λ (t : S). f t (x n)) e
     go false e = e
 

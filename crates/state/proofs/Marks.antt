@@ -1,6 +1,6 @@
 -- A mark is a digit of a word; one that is set or cleared leaves the others, by a test of the 64 x 64 places in a word. Assumes nothing.
 use mathlib.Core.Path.{_≡_, refl, sym, ap, _∙_}
-use mathlib.Core.Bool.{Bool, true, false, not, _&&_, _||_, false≢true}
+use mathlib.Core.Bool.{Bool, true, false, cond, not, _&&_, _||_, false≢true}
 use mathlib.Core.List.{List}
 use mathlib.Core.Logic.{_⊎_, inl, inr, _≢_}
 use Prim.Native.Nat.{ℕ, zero, suc, _-_, _/_, _%_, _^_, _<_}
@@ -11,14 +11,9 @@ use lib.Dec.{eqb}
 use lib.ListN.{length, getD, set, replicate, length-set, List·getD-eq-default}
 use lib.Seq.{getD-set-same, getD-set-other}
 use borrow.Author.Tests.{eqb-true, eqb-false, eq-eqb, ne-eqb}
-use Rattle.refusal.specs.Refusal.{choose}
 use Rattle.state.specs.Sizes.{addresses}
+use Rattle.octets.proofs.Same.{both}
 use Rattle.state.specs.Marks.{used, marked, unmarked}
-
--- both of two tests
-pub both : (a b : Bool) → (a && b) ≡ true → (a ≡ true) × (b ≡ true)
-both true b e = (refl, e)
-both false b e = absurd (false≢true e)
 
 -- ---- the digits of a word
 
@@ -49,17 +44,17 @@ below-at p (suc n) i e h = go (eqb i n) refl (below-at p n i)
 
 -- of 2 ^ k the digit k is set and no other; of the mask that clears it, every other
 place : ℕ → ℕ → Bool
-place k j = eqb (digit (2 ^ k) j) (choose (eqb j k) 1 0) && eqb (digit (2 ^ 64 - 1 - 2 ^ k) j) (choose (eqb j k) 0 1)
+place k j = eqb (digit (2 ^ k) j) (cond (eqb j k) 1 0) && eqb (digit (2 ^ 64 - 1 - 2 ^ k) j) (cond (eqb j k) 0 1)
 
 places : below (λ k. below (place k) 64) 64 ≡ true
 unfolding below place digit
 places = refl
 
-placed : (k j : ℕ) → k < 64 → j < 64 → (digit (2 ^ k) j ≡ choose (eqb j k) 1 0) × (digit (2 ^ 64 - 1 - 2 ^ k) j ≡ choose (eqb j k) 0 1)
+placed : (k j : ℕ) → k < 64 → j < 64 → (digit (2 ^ k) j ≡ cond (eqb j k) 1 0) × (digit (2 ^ 64 - 1 - 2 ^ k) j ≡ cond (eqb j k) 0 1)
 unfolding place
 placed k j h g =
     let p = below-at (place k) 64 j (below-at (λ k. below (place k) 64) 64 k places h) g in
-    let q = both (eqb (digit (2 ^ k) j) (choose (eqb j k) 1 0)) (eqb (digit (2 ^ 64 - 1 - 2 ^ k) j) (choose (eqb j k) 0 1)) p in
+    let q = both (eqb (digit (2 ^ k) j) (cond (eqb j k) 1 0)) (eqb (digit (2 ^ 64 - 1 - 2 ^ k) j) (cond (eqb j k) 0 1)) p in
     (eqb-true _ _ (q .0), eqb-true _ _ (q .1))
 
 bit : (w k : ℕ) → (digit w k ≡ 0) ⊎ (digit w k ≡ 1)
@@ -74,7 +69,7 @@ bit w k = go ((w / 2 ^ k) % 2) (omega arith)
 set-digit : (w k j : ℕ) → k < 64 → j < 64 → eqb (digit (bitOr w (2 ^ k)) j) 1 ≡ (eqb j k || eqb (digit w j) 1)
 set-digit w k j h g = rw (or-digit w (2 ^ k) j, placed k j h g .0) (go (eqb j k) (bit w j))
   where
-    go : (t : Bool) → (digit w j ≡ 0) ⊎ (digit w j ≡ 1) → eqb (bitOr (digit w j) (choose t 1 0)) 1 ≡ (t || eqb (digit w j) 1)
+    go : (t : Bool) → (digit w j ≡ 0) ⊎ (digit w j ≡ 1) → eqb (bitOr (digit w j) (cond t 1 0)) 1 ≡ (t || eqb (digit w j) 1)
     go true (inl e) = rw e
     go true (inr e) = rw e
     go false (inl e) = rw e
@@ -83,7 +78,7 @@ set-digit w k j h g = rw (or-digit w (2 ^ k) j, placed k j h g .0) (go (eqb j k)
 clear-digit : (w k j : ℕ) → k < 64 → j < 64 → eqb (digit (bitAnd w (2 ^ 64 - 1 - 2 ^ k)) j) 1 ≡ (not (eqb j k) && eqb (digit w j) 1)
 clear-digit w k j h g = rw (and-digit w (2 ^ 64 - 1 - 2 ^ k) j, placed k j h g .1) (go (eqb j k) (bit w j))
   where
-    go : (t : Bool) → (digit w j ≡ 0) ⊎ (digit w j ≡ 1) → eqb (bitAnd (digit w j) (choose t 0 1)) 1 ≡ (not t && eqb (digit w j) 1)
+    go : (t : Bool) → (digit w j ≡ 0) ⊎ (digit w j ≡ 1) → eqb (bitAnd (digit w j) (cond t 0 1)) 1 ≡ (not t && eqb (digit w j) 1)
     go true (inl e) = rw e
     go true (inr e) = rw e
     go false (inl e) = rw e

@@ -10,26 +10,14 @@ use lib.Bits.{bitXor, xor-zero-l, xor-comm, xor-self, xor-shr, xor-mod}
 use lib.Dec.{eqb}
 use lib.ListN.{length, replicate}
 use borrow.Author.Tests.{eqb-true, eq-eqb}
-use Rattle.octets.specs.Places.{xor}
+use Rattle.octets.specs.Places.{xor, same}
+use Rattle.octets.proofs.Same.{both, same-refl, same-eq}
 use Rattle.state.specs.Cells.{Entry}
-use Rattle.state.specs.Multiset.{xorAll, hash, emptyHash, withTag, same, sameHash}
+use Rattle.state.specs.Multiset.{xorAll, hash, emptyHash, withTag, sameHash}
 use Rattle.state.specs.Counts.{sameEntry, bit, times}
 use Rattle.state.specs.declared.Hash.{Hash}
-use Rattle.state.proofs.Marks.{both}
 
 -- ---- the tests of equality
-
-same-true : (x y : List ℕ) → same x y ≡ true → x ≡ y
-unfolding same
-same-true [] [] e = refl
-same-true [] (y ∷ ys) e = cc
-same-true (x ∷ xs) [] e = cc
-same-true (x ∷ xs) (y ∷ ys) e = let p = both (eqb x y) (same xs ys) e in ap₂ _∷_ (eqb-true x y (p .0)) (same-true xs ys (p .1))
-
-same-refl : (x : List ℕ) → same x x ≡ true
-unfolding same
-same-refl [] = refl
-same-refl (x ∷ xs) = rw (eq-eqb x x refl, same-refl xs)
 
 pub sameEntry-true : (d e : Entry) → sameEntry d e ≡ true → d ≡ e
 unfolding sameEntry
@@ -37,7 +25,7 @@ sameEntry-true d e h =
     let p = both (eqb (d .address) (e .address)) (same (d .value) (e .value) && eqb (d .stamp) (e .stamp)) h in
     let q = both (same (d .value) (e .value)) (eqb (d .stamp) (e .stamp)) (p .1) in
     let a = eqb-true (d .address) (e .address) (p .0) in
-    let v = same-true (d .value) (e .value) (q .0) in
+    let v = same-eq (d .value) (e .value) (q .0) in
     let t = eqb-true (d .stamp) (e .stamp) (q .1) in
     λ i. record { address = a i; value = v i; stamp = t i }
 
@@ -50,7 +38,7 @@ pub sameHash-true : (p q : Hash) → sameHash p q ≡ true → p ≡ q
 unfolding sameHash
 sameHash-true p q e =
     let b = both (same (p .tag) (q .tag)) (eqb (p .number) (q .number)) e in
-    let t = same-true (p .tag) (q .tag) (b .0) in
+    let t = same-eq (p .tag) (q .tag) (b .0) in
     let n = eqb-true (p .number) (q .number) (b .1) in
     λ i. record { tag = t i; number = n i }
 

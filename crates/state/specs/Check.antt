@@ -1,9 +1,9 @@
 -- 01, Check. Over the stamp's width w and the tag. Assumes nothing.
-use mathlib.Core.Bool.{Bool, not, _&&_}
+use mathlib.Core.Bool.{Bool, cond, not, _&&_}
 use mathlib.Core.List.{List, [], _∷_, _++_}
 use mathlib.Core.Option.{Option, none, some}
 use Prim.Native.Nat.{ℕ, zero, suc}
-use Rattle.refusal.specs.Refusal.{Row, choose}
+use Rattle.refusal.specs.Refusal.{Row}
 use Rattle.state.specs.Sizes.{addresses}
 use Rattle.state.specs.Marks.{used}
 use Rattle.state.specs.Cells.{Entry, entry, valueAt, entryAt, writeEntry}
@@ -26,7 +26,7 @@ checkRows w s m = shutRow s ∷ storeRow w m ∷ []
 -- what stands at the addresses in use below n, lowest first: x at each of them
 unfoldable pub inUse : {A : Type 0} → (ℕ → A) → List ℕ → ℕ → List A
 inUse x ws zero = []
-inUse x ws (suc n) = inUse x ws n ++ choose (used ws n) (x n ∷ []) []
+inUse x ws (suc n) = inUse x ws n ++ cond (used ws n) (x n ∷ []) []
 
 -- a new period: empty hashes, and the clock at 1
 unfoldable pub opened : State → State
@@ -40,7 +40,7 @@ opening w m a = entry a (valueAt w m a) 1
 -- the store after the addresses in use below n are put again
 unfoldable pub putBelow : ℕ → List ℕ → List ℕ → ℕ → List ℕ
 putBelow w ws m zero = m
-putBelow w ws m (suc n) = choose (used ws n) (writeEntry w (putBelow w ws m n) (opening w m n)) (putBelow w ws m n)
+putBelow w ws m (suc n) = cond (used ws n) (writeEntry w (putBelow w ws m n) (opening w m n)) (putBelow w ws m n)
 
 -- the hashes are equal and no fault is marked
 unfoldable pub agrees : State → Bool
@@ -57,12 +57,12 @@ module _ (w : ℕ) (tag : List ℕ → Entry → List ℕ) where
   -- the state after every address in use below n is taken, lowest first
   unfoldable pub takeBelow : State → List ℕ → ℕ → State
   takeBelow s m zero = s
-  takeBelow s m (suc n) = choose (used (s .marks) n) (takeEntry tag (takeBelow s m n) (entryAt w m n)) (takeBelow s m n)
+  takeBelow s m (suc n) = cond (used (s .marks) n) (takeEntry tag (takeBelow s m n) (entryAt w m n)) (takeBelow s m n)
 
   -- the state of the new period, after the addresses in use below n are put
   unfoldable pub openBelow : State → List ℕ → ℕ → State
   openBelow s m zero = opened s
-  openBelow s m (suc n) = choose (used (s .marks) n) (putEntry tag (openBelow s m n) (opening w m n)) (openBelow s m n)
+  openBelow s m (suc n) = cond (used (s .marks) n) (putEntry tag (openBelow s m n) (opening w m n)) (openBelow s m n)
 
   -- accepted: between the takes, which end a period, and the puts, which begin the next
   unfoldable pub acceptance : State → List ℕ → Step
@@ -74,4 +74,4 @@ module _ (w : ℕ) (tag : List ℕ → Entry → List ℕ) where
   rejection s m = step (seen 0 Reject (shut s) m []) (takes w s m)
 
   unfoldable pub checkOf : State → List ℕ → Step
-  checkOf s m = call (checkRows w s m) s m [] (choose (agrees (takeBelow s m addresses)) (acceptance s m) (rejection s m))
+  checkOf s m = call (checkRows w s m) s m [] (cond (agrees (takeBelow s m addresses)) (acceptance s m) (rejection s m))

@@ -5,7 +5,7 @@ use mathlib.Core.List.{List, [], _∷_}
 use Prim.Native.Nat.{ℕ, _+_}
 use lib.Dec.{eqb}
 use Rattle.state.specs.Cells.{Entry}
-use Rattle.state.specs.Multiset.{same}
+use Rattle.octets.specs.Places.{same}
 
 -- are two entries equal
 unfoldable pub sameEntry : Entry → Entry → Bool

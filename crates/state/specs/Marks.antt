@@ -1,12 +1,11 @@
 -- 01, The trusted state: its marks. That of address a is bit a % 64 of word a / 64, the lowest bit first.
 -- Assumes nothing.
-use mathlib.Core.Bool.{Bool}
+use mathlib.Core.Bool.{Bool, cond}
 use mathlib.Core.List.{List}
 use Prim.Native.Nat.{ℕ, zero, suc, _+_, _-_, _/_, _%_, _^_}
 use lib.Bits.{bitAnd, bitOr}
 use lib.Dec.{eqb}
 use lib.ListN.{getD, set}
-use Rattle.refusal.specs.Refusal.{choose}
 use Rattle.state.specs.Sizes.{addresses}
 
 -- is the address in use
@@ -23,7 +22,7 @@ unmarked ws a = set ws (a / 64) (bitAnd (getD ws (a / 64) 0) (2 ^ 64 - 1 - 2 ^ (
 -- 01, Count: the number of set marks, here of those below n
 unfoldable pub countBelow : ℕ → List ℕ → ℕ
 countBelow zero ws = 0
-countBelow (suc n) ws = choose (used ws n) (countBelow n ws + 1) (countBelow n ws)
+countBelow (suc n) ws = cond (used ws n) (countBelow n ws + 1) (countBelow n ws)
 
 unfoldable pub countOf : List ℕ → ℕ
 countOf ws = countBelow addresses ws
@@ -31,4 +30,4 @@ countOf ws = countBelow addresses ws
 -- 01, Lowest free: the smallest unmarked address, here among the k from a on; a + k where all are marked
 unfoldable pub lowestFrom : ℕ → ℕ → List ℕ → ℕ
 lowestFrom zero a ws = a
-lowestFrom (suc k) a ws = choose (used ws a) (lowestFrom k (suc a) ws) a
+lowestFrom (suc k) a ws = cond (used ws a) (lowestFrom k (suc a) ws) a

@@ -1,13 +1,13 @@
 -- 01, The multiset hash: the MSet-XOR hash of the source (its definition 4.4) with no nonce.
 -- Assumes nothing.
 use mathlib.Core.Path.{_≡_}
-use mathlib.Core.Bool.{Bool, true, false, _&&_}
+use mathlib.Core.Bool.{Bool, _&&_}
 use mathlib.Core.List.{List, [], _∷_, _++_, map}
 use Prim.Native.Nat.{ℕ, _+_, _%_, _^_, _<_}
 use lib.Dec.{eqb}
 use lib.ListN.{length, replicate}
 use Rattle.octets.specs.Layout.{bytes}
-use Rattle.octets.specs.Places.{xor}
+use Rattle.octets.specs.Places.{xor, same}
 use Rattle.state.specs.Sizes.{valueSize}
 use Rattle.state.specs.Cells.{Entry}
 use Rattle.state.specs.declared.Hash.{Hash}
@@ -38,12 +38,6 @@ emptyHash = record { tag = replicate 32 0; number = 0 }
 unfoldable pub withTag : Hash → List ℕ → Hash
 withTag h t = record { tag = xor (h .tag) t; number = (h .number + 1) % 2 ^ 32 }
 
--- are two lists equal, and two hashes: when tags and numbers both are
-unfoldable pub same : List ℕ → List ℕ → Bool
-same [] [] = true
-same [] (y ∷ ys) = false
-same (x ∷ xs) [] = false
-same (x ∷ xs) (y ∷ ys) = eqb x y && same xs ys
-
+-- are two hashes equal: when tags and numbers both are
 unfoldable pub sameHash : Hash → Hash → Bool
 sameHash p q = same (p .tag) (q .tag) && eqb (p .number) (q .number)

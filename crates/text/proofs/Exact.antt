@@ -3,11 +3,13 @@ use mathlib.Core.Path.{_≡_}
 use native.Mathlib.Omega.{arith}
 use Prim.Native.Nat.{ℕ}
 use Rattle.text.specs.Text.{decimal, hex}
-use Rattle.text.specs.Read.{same, decimalIn, hexIn}
+use Rattle.octets.specs.Places.{same}
+use Rattle.text.specs.Read.{decimalIn, hexIn}
 use Rattle.text.specs.Exact.{OneNumber, OneByte}
 use Rattle.text.specs.declared.Number.the-variants.{Of, NoNumber}
 use Rattle.text.specs.declared.Byte.the-variants.{Is, NoByte}
-use Rattle.text.proofs.Seeks.{same-eq, seek-found}
+use Rattle.octets.proofs.Same.{same-eq}
+use Rattle.text.proofs.Seeks.{seek-found}
 use Rattle.text.proofs.Numerals.{decimal-is, hex-is}
 
 pub one-number : OneNumber

@@ -10,12 +10,14 @@ use Prim.Native.Nat.{ℕ, zero, suc, _+_, _-_, _*_, _/_, _%_, _≤_, _<_}
 use lib.Dec.{ltb, eqb}
 use lib.ListN.{length, getD, length-append, List·getD-append}
 use Rattle.text.specs.Text.{decimalUp, decimal, glyph, hex}
-use Rattle.text.specs.Read.{same, decimalIn, hexIn}
+use Rattle.octets.specs.Places.{same}
+use Rattle.text.specs.Read.{decimalIn, hexIn}
 use Rattle.text.specs.Digits.{digitIn}
 use Rattle.text.specs.declared.Number.the-variants.{Of, NoNumber}
 use Rattle.text.specs.declared.Byte.the-variants.{Is, NoByte}
 use Rattle.text.proofs.Each.{Each, each-append}
-use Rattle.text.proofs.Seeks.{same-refl, same-eq, seek-is, seek-none, seek-finds, Found}
+use Rattle.octets.proofs.Same.{same-refl, same-eq}
+use Rattle.text.proofs.Seeks.{seek-is, seek-none, seek-finds, Found}
 
 -- one digit, and a digit more
 up-small : (k n : ℕ) → n < 10 → decimalUp k n ≡ (48 + n) ∷ []

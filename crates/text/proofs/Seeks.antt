@@ -1,33 +1,11 @@
 -- The number that a search finds: by induction on its bound. Assumes nothing.
-use borrow.Author.Tests.{eqb-true, eq-eqb, ne-eqb}
-use mathlib.Core.Path.{_≡_, refl, sym, ap, ap₂, _∙_}
+use mathlib.Core.Path.{_≡_, refl, sym, ap, _∙_}
 use mathlib.Core.Bool.{Bool, true, false}
-use mathlib.Core.List.{List, [], _∷_}
+use mathlib.Core.List.{[]}
 use mathlib.Core.Logic.{_⊎_, inl, inr}
 use native.Mathlib.Omega.{arith}
-use native.Mathlib.Numerals.{add-one}
-use Prim.Native.Nat.{ℕ, zero, suc, _+_, _≤_, _<_}
-use lib.Dec.{eqb}
-use lib.ListN.{length, getD, drop, drop-of-length-le}
-use lib.Seq.{drop-cons}
-use Rattle.text.specs.Read.{same, seek}
-
--- two words are the same exactly when they are equal
-pub same-refl : (l : List ℕ) → same l l ≡ true
-unfolding same
-same-refl [] = refl
-same-refl (x ∷ xs) = rw (eq-eqb x x refl, same-refl xs)
-
-pub same-eq : (k l : List ℕ) → same k l ≡ true → k ≡ l
-unfolding same
-same-eq [] [] h = refl
-same-eq [] (y ∷ ys) h = absurd (let z : _≡_ {A = ℕ} 0 1 = cc in omega arith)
-same-eq (x ∷ xs) [] h = absurd (let z : _≡_ {A = ℕ} 0 1 = cc in omega arith)
-same-eq (x ∷ xs) (y ∷ ys) h = go (eqb x y) refl (same-eq xs ys)
-  where
-    go : (b : Bool) → eqb x y ≡ b → (same xs ys ≡ true → xs ≡ ys) → x ∷ xs ≡ y ∷ ys
-    go true e k = ap₂ _∷_ (eqb-true x y e) (k (rw e at h))
-    go false e k = absurd (let g : false ≡ true = rw e at h in let z : _≡_ {A = ℕ} 0 1 = cc in omega arith)
+use Prim.Native.Nat.{ℕ, zero, suc, _<_}
+use Rattle.text.specs.Read.{seek}
 
 module _ {A : Type 0} (test : ℕ → Bool) (some : ℕ → A) (none : A) where
   pub seek-is : (k n : ℕ) → n < k → test n ≡ true → ((m : ℕ) → m < k → test m ≡ true → m ≡ n) → seek test k some none ≡ some n

@@ -1,21 +1,14 @@
 -- 01, "The bench program": the number or the byte that a word writes, found by a search. What the search finds is stated in Exact.antt.
 -- Assumes nothing.
-use mathlib.Core.Bool.{Bool, true, false, cond, _&&_}
-use mathlib.Core.List.{List, [], _∷_}
+use mathlib.Core.Bool.{Bool, cond}
+use mathlib.Core.List.{List, []}
 use Prim.Native.Nat.{ℕ, zero, suc}
-use lib.Dec.{eqb}
+use Rattle.octets.specs.Places.{same}
 use Rattle.text.specs.Text.{decimal, hex}
 use Rattle.text.specs.declared.Number.{Number}
 use Rattle.text.specs.declared.Number.the-variants.{Of, NoNumber}
 use Rattle.text.specs.declared.Byte.{Byte}
 use Rattle.text.specs.declared.Byte.the-variants.{Is, NoByte}
-
--- are two words the same
-unfoldable pub same : List ℕ → List ℕ → Bool
-same [] [] = true
-same [] (y ∷ ys) = false
-same (x ∷ xs) [] = false
-same (x ∷ xs) (y ∷ ys) = eqb x y && same xs ys
 
 -- the number below k that passes a test, handed to `some`; `none` where no number does
 unfoldable pub seek : {A : Type 0} → (ℕ → Bool) → ℕ → (ℕ → A) → A → A

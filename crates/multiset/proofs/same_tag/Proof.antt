@@ -6,7 +6,7 @@ use Prim.Native.Nat.{ℕ, _-_, _≤_, _<_}
 use native.Mathlib.Omega.{arith}
 use lib.ListN.{length, getD}
 use lib.Seq.{ext-getD}
-use Rattle.multiset.proofs.Hashes.{same-self, same-other}
+use Rattle.octets.proofs.Same.{same-refl, same-other}
 use Rattle.multiset.proofs.same_tag.Statement.{statement}
 use Rattle.multiset.proofs.same_tag.Tie as tie
 
@@ -30,7 +30,7 @@ returns-2 c =
     let k : length (x .t1) ≡ 32 = search needs in
     let l : length (x .t2) ≡ 32 = search needs in
     let e : x .t1 ≡ x .t2 = ext-getD 0 (x .t1) (x .t2) (k ∙ sym l) (λ i h. c .before .loop .inv .1 i (omega arith)) in
-    rw e (sym (same-self (x .t2)))
+    rw e (sym (same-refl (x .t2)))
 
 pub same-tag-spec : {M : Type 1} → statement M
 same-tag-spec =
