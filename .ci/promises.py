@@ -16,7 +16,7 @@ seen = 0
 def named(text, name):
     """Whether the text declares the name: a definition, a type, a field, a constructor, a function or a constant."""
     word = re.escape(name)
-    return re.search(rf"(?m)^\s*(?:pub\s+|abbrev\s+|unfoldable\s+|const\s+|fn\s+|struct\s+|enum\s+|record\s+|data\s+)*{word}(?![\w·-])", text)
+    return re.search(rf"(?m)^\s*(?:pub\s+|abbrev\s+|unfoldable\s+|const\s+|extern\s+.C.\s+|fn\s+|struct\s+|enum\s+|record\s+|data\s+)*{word}(?![\w·-])", text)
 
 
 for page in pages:

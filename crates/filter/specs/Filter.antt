@@ -21,7 +21,7 @@ use Rattle.filter.specs.declared.Unpacked.{Unpacked}
 abbrev pub widths : List ℕ
 widths = 1 ∷ 1 ∷ 8 ∷ 8 ∷ 14 ∷ 32 ∷ 32 ∷ 128 ∷ []
 
--- the value of each family and of each action, and the one that has a value
+-- the number of each family and of each action; and the family and the action of a number
 abbrev pub familyNumber : Family → ℕ
 familyNumber Ipv4 = 0
 familyNumber Ipv6 = 1

@@ -40,12 +40,12 @@ moves (look a) = false
 moves count = false
 moves lowest = false
 
--- 01: look, count and lowest free change nothing
+-- 01: look, count and lowest free change nothing. What they answer is in their contracts, and no part of a run
 abbrev pub idle : State → List ℕ → Step
 idle s m = record { seen = seen 0 Nothing s m []; events = [] }
 
 module _ (w : ℕ) (tag : List ℕ → Entry → List ℕ) where
-  -- what a call gives and does
+  -- what a call does; and what it gives, but for look, count and lowest free
   unfoldable pub step : State → List ℕ → Call → Step
   step s m (add a v) = addOf w tag s m a v
   step s m (load a o) = loadOf w tag s m a o

@@ -3,13 +3,13 @@
 -- A run is a start with any key, refused or not, and after it any calls with any arguments, refused ones too. Each call gets the state that the call
 -- before gave back, and is lent any bytes as the store.
 --
--- First half. If the last call is a check that accepts, then each load that was answered since the start gave the value last added or stored at its
--- address; or else, for some accepted check of the run, no two of the entries put in its period are alike, and the entries put and the entries taken
--- in its period are different multisets with equal hashes. The period of an accepted check is all that was done since the accepted check before it,
--- or since the start: from the puts of that check on, to the takes of this one.
+-- First half. Let the run end with a check, and let it accept. Then each answered load of the run handed out what an add or a store had set last at that
+-- address. Or there is an accepted check in the run at which hashes collide: in its period no entry was put twice, and what was put there and what was
+-- taken there are two multisets that differ, and their hashes do not. The period of an accepted check is all that was done since the accepted check
+-- before it, or since the start: from the puts of that check on, to the takes of this one.
 --
--- Second half. If the cells in use reach each call as they were left, each check that is not refused accepts. All other bytes may be any at every call,
--- and a call that is refused, as one that is lent a store of another size, does no harm.
+-- Second half. As long as every cell in use comes back as it was left, a check that is not refused accepts. All other bytes may be any at every call, and
+-- a call that is refused, as one that is lent a store of another size, does no harm.
 --
 -- It is stated by places: `run ≡ before ++ (x ∷ later)` says that the call x stands in the run after the calls `before`. Of the tag nothing is asked.
 -- Assumes nothing.
@@ -104,10 +104,11 @@ module _ (w : ℕ) (tag : List ℕ → Entry → List ℕ) (key : List ℕ) wher
 
   -- ---- first half
 
-  -- a call that adds or stores at a, done; and v is the value last added or stored at a: the argument of the latest such call
+  -- a call that adds or stores at a, done
   abbrev pub SetAt : ℕ → List Lent → Lent → Type 0
   SetAt a before x = Done before x × (v : List ℕ) × Sets (x .call) a v
 
+  -- v is the value last added or stored at a: the argument of the latest such call
   abbrev pub LastSet : List Lent → ℕ → List ℕ → Type 0
   LastSet run a v = (l : Latest (SetAt a) run) × Sets (l .call .call) a v
 
