@@ -16,7 +16,7 @@ pub enum Name {
     Spoil,
 }
 
-// What a line prints: its command and number; a load that worked, with its byte; a check's verdict; or that it is bad.
+// What a line prints: a command with its number; the byte of a load that was done; a check's verdict; or that it is bad.
 pub enum Answer {
     Numbered(Name, u8),
     Loaded(u8),

@@ -73,7 +73,7 @@ pub fn remove(s: State, store: &mut [u8], a: usize) -> Moved
     Moved { number, state: s }
 }
 
-// Takes every address in use: accepts where the hashes are then equal and no fault is marked, and begins a new period; else closes the state.
+// Takes every address in use. Where after that both hashes agree and the fault mark is clear it accepts, and a new period begins; else it closes the state.
 pub fn check(s: State, store: &mut [u8]) -> Checked
     ensures { λ r. ⌜ seen (r .number) (r .verdict) (r .state) (now (store .exit)) []
         ≡ checkOf width tag s (now (store .entry)) .seen ⌝ }
