@@ -1,5 +1,4 @@
 pub mod Calls
-pub mod Compares
 pub mod Copies
 pub mod Fields
 pub mod Lawful

@@ -5,14 +5,11 @@
 use mathlib.Core.Path.{_≡_}
 use mathlib.Core.List.{List}
 use mathlib.Core.Logic.{_↔_}
-use mathlib.Core.Option.{none}
 use Prim.Native.Nat.{ℕ}
 use lib.ListN.{length}
 use Rattle.refusal.specs.Refusal.{Given, filled}
 use Rattle.filter.specs.Filter.{FieldsFit, BytesFit, Lawful, LawfulBytes, packRows, unpackRows, packOf, unpackOf, unpacked, zeroFilter}
-use Rattle.filter.specs.Going.{goingOf, Says, goingNumber}
 use Rattle.filter.specs.declared.FilterRecord.{FilterRecord}
-use Rattle.filter.specs.declared.going.Going.{Going}
 
 -- lawful filter records and lawful bytes stand one to one
 pub record OneToOne : Type 0 where
@@ -35,8 +32,3 @@ pub record Numbers : Type 0 where
   pub unpack-exactly : (n : ℕ) (bs : List ℕ) → (unpackOf bs .number ≡ n) ↔ Given n (unpackRows bs)
   pub pack-keeps : (r : FilterRecord) (out : List ℕ) → (packOf r out .number ≡ 0 → ⊥) → packOf r out .out ≡ out
   pub unpack-zeros : (bs : List ℕ) → (unpackOf bs .number ≡ 0 → ⊥) → unpackOf bs .filter ≡ zeroFilter
-
--- the comparison gives an answer exactly when what that answer says is true, and never a number
-pub record Compared : Type 0 where
-  pub exactly : (g : Going) (held offered : FilterRecord) → (goingOf held offered ≡ g) ↔ Says g held offered
-  pub no-number : (held offered : FilterRecord) → goingNumber (goingOf held offered) ≡ none

@@ -1,9 +1,4 @@
 // The filter record: 28 bytes for each lawful one, and one for each lawful 28 bytes.
-// going.rt: whether an offered one goes back.
-mod going;
-
-pub use going::Going;
-pub use going::compare;
 ghost use mathlib.Core.Path.{_≡_};
 ghost use mathlib.Core.Bool.{not, _&&_};
 ghost use mathlib.Core.List.{[], _∷_};

@@ -18,7 +18,7 @@ use Rattle.sha256.proofs.digest as Digest
 use Rattle.hmac.proofs.mac as Mac
 use Rattle.filter.proofs.pack as Pack
 use Rattle.filter.proofs.unpack as Unpack
-use Rattle.filter.proofs.compare as Compare
+use Rattle.going.proofs.compare as Compare
 use Rattle.lent.proofs.copy as Copy
 use Rattle.constants.proofs.round_constants as RoundConstants
 use Rattle.constants.proofs.initial_hash as InitialHash

@@ -9,7 +9,7 @@ use Rattle.state.proofs.Messages.{message-injective}
 use Rattle.state.proofs.Guards.{accepts-tells, equal-accepts, fault-marked, marks-fault}
 use Rattle.multiset.specs.Tag.{tag}
 use Rattle.filter.proofs.Trips.{one-to-one}
-use Rattle.filter.proofs.Compares.{compared}
+use Rattle.going.proofs.Compares.{compared}
 use Rattle.run.proofs.Demand3.{demand3}
 use Rattle.run.proofs.Exact.{one-period, state-exact, check-exact}
 use Rattle.promises.proofs.Filters.{zeros-lawful}

@@ -18,7 +18,8 @@ use Rattle.state.specs.declared.State.{State}
 use Rattle.state.specs.declared.Hash.{Hash}
 use Rattle.state.specs.declared.Verdict.the-variants.{Accept}
 use Rattle.multiset.specs.Tag.{tag}
-use Rattle.filter.specs.Promises.{OneToOne, Compared}
+use Rattle.filter.specs.Promises.{OneToOne}
+use Rattle.going.specs.Going.{Compared}
 use Rattle.run.specs.Demand3.{Demand3}
 use Rattle.promises.specs.Filters.{ZerosLawful}
 use Rattle.run.specs.Exact.{OnePeriod, StateExact, CheckExact}

@@ -101,3 +101,11 @@ pub fn tag() {
     print_bytes(&tag);
     io::write_all(1, b"\n");
 }
+
+// The tag of an entry under a key of zeros: address 5, a value of zeros, stamp 3.
+pub fn entry() {
+    let tag = multiset::tag([0u8; 32], 5, [0u8; 28], 3);
+    io::write_all(1, b"tag of an entry: ");
+    print_bytes(&tag);
+    io::write_all(1, b"\n");
+}

@@ -1,4 +1,4 @@
-// Runs the published vectors of SHA-256 and of HMAC with it by the proved functions, and calls these at the bounds of their sizes.
+// Runs the published vectors of SHA-256 and of HMAC with it by the proved functions, calls these at the bounds of their sizes, and prints an entry's tag.
 mod bounds;
 mod cases;
 mod text;
@@ -10,4 +10,5 @@ fn main() {
     bounds::digests();
     bounds::macs();
     bounds::tag();
+    bounds::entry();
 }

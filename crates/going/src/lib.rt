@@ -1,7 +1,7 @@
 // Going back: whether an offered filter record has an older key serial than the one held.
-use super::FilterRecord;
+use filter::FilterRecord;
 ghost use mathlib.Core.Path.{_≡_};
-ghost use Rattle.filter.specs.Going.{goingOf};
+ghost use Rattle.going.specs.Going.{goingOf};
 
 pub enum Going {
     OtherMember,

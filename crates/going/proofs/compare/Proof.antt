@@ -1,8 +1,8 @@
--- `filter::compare` meets its contract: by its two tests. Assumes nothing.
+-- `going::compare` meets its contract: by its two tests. Assumes nothing.
 use borrow.Author.Tests.{eq-eqb, ne-eqb, lt-ltb, le-ltb}
-use Rattle.filter.specs.Going.{goingOf}
-use Rattle.filter.proofs.going.compare.Statement.{statement}
-use Rattle.filter.proofs.going.compare.Tie as tie
+use Rattle.going.specs.Going.{goingOf}
+use Rattle.going.proofs.compare.Statement.{statement}
+use Rattle.going.proofs.compare.Tie as tie
 
 returns : tie.Need-returns
 unfolding goingOf

@@ -2,12 +2,13 @@
 -- Assumes nothing.
 use mathlib.Core.Path.{_≡_}
 use mathlib.Core.Bool.{cond, not}
+use mathlib.Core.Logic.{_↔_}
 use mathlib.Core.Option.{Option, none}
 use Prim.Native.Nat.{ℕ, _<_, _≤_}
 use lib.Dec.{ltb, eqb}
 use Rattle.filter.specs.declared.FilterRecord.{FilterRecord}
-use Rattle.filter.specs.declared.going.Going.{Going}
-use Rattle.filter.specs.declared.going.Going.the-variants.{OtherMember, Back, Forward}
+use Rattle.going.specs.declared.Going.{Going}
+use Rattle.going.specs.declared.Going.the-variants.{OtherMember, Back, Forward}
 
 unfoldable pub goingOf : FilterRecord → FilterRecord → Going
 goingOf held offered =
@@ -24,3 +25,8 @@ abbrev pub goingNumber : Going → Option ℕ
 goingNumber OtherMember = none
 goingNumber Back = none
 goingNumber Forward = none
+
+-- the comparison gives an answer exactly when what that answer says is true, and never a number
+pub record Compared : Type 0 where
+  pub exactly : (g : Going) (held offered : FilterRecord) → (goingOf held offered ≡ g) ↔ Says g held offered
+  pub no-number : (held offered : FilterRecord) → goingNumber (goingOf held offered) ≡ none

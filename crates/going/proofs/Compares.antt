@@ -4,11 +4,10 @@ use mathlib.Core.Bool.{Bool, true, false, cond, not}
 use mathlib.Core.Option.{none}
 use lib.Dec.{eqb, ltb}
 use borrow.Author.Tests.{eq-eqb, ne-eqb, eqb-true, eqb-false, lt-ltb, le-ltb, ltb-true, ltb-false}
-use Rattle.filter.specs.Going.{goingOf, Says, goingNumber}
-use Rattle.filter.specs.Promises.{Compared}
+use Rattle.going.specs.Going.{goingOf, Says, goingNumber, Compared}
 use Rattle.filter.specs.declared.FilterRecord.{FilterRecord}
-use Rattle.filter.specs.declared.going.Going.{Going}
-use Rattle.filter.specs.declared.going.Going.the-variants.{OtherMember, Back, Forward}
+use Rattle.going.specs.declared.Going.{Going}
+use Rattle.going.specs.declared.Going.the-variants.{OtherMember, Back, Forward}
 
 -- the answer given is true
 true-answer : (held offered : FilterRecord) (s t : Bool) → eqb (held .member) (offered .member) ≡ s → ltb (offered .serial) (held .serial) ≡ t
