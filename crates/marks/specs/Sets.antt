@@ -1,4 +1,4 @@
--- 01, "Count and lowest free": the marks as a set of addresses.
+-- 01, Count and Lowest free: the marks as a set of addresses.
 -- Assumes nothing.
 use mathlib.Core.Path.{_≡_}
 use mathlib.Core.Bool.{true, false}
