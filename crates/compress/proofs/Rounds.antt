@@ -6,7 +6,8 @@ use Prim.Native.Nat.{ℕ, suc, _+_}
 use native.Mathlib.Omega.{arith}
 use lib.ListN.{getD}
 use Rattle.constants.specs.Constants.{K}
-use Rattle.compress.specs.Compress.{_⊞_, Ch, Maj, Σ0, Σ1, round, rounds}
+use Rattle.schedule.specs.Words.{_⊞_}
+use Rattle.compress.specs.Compress.{Ch, Maj, Σ0, Σ1, round, rounds}
 
 pub round-calls : (s : List ℕ) (k w x1 x2 x3 x4 x5 t1 y1 y2 t2 a e : ℕ) → x1 ≡ Σ1 (getD s 4 0) → x2 ≡ getD s 7 0 ⊞ x1 → x3 ≡ Ch (getD s 4 0) (getD s 5 0) (getD s 6 0)
     → x4 ≡ x2 ⊞ x3 → x5 ≡ x4 ⊞ k → t1 ≡ x5 ⊞ w → y1 ≡ Σ0 (getD s 0 0) → y2 ≡ Maj (getD s 0 0) (getD s 1 0) (getD s 2 0) → t2 ≡ y1 ⊞ y2 → a ≡ t1 ⊞ t2 → e ≡ getD s 3 0 ⊞ t1

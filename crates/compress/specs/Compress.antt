@@ -1,42 +1,12 @@
--- SHA-256's compression of one block, as FIPS 180-4 has it. A word is a number below 2^32; lists hold words in the standard's order.
+-- SHA-256's compression of one block, as FIPS 180-4 has it, over the words and the schedule of the crate below. Lists hold words in the standard's order.
 -- Assumes nothing.
-use mathlib.Core.Bool.{cond}
-use mathlib.Core.List.{List, [], _∷_, _++_}
-use Prim.Native.Nat.{ℕ, zero, suc, _+_, _-_, _*_, _/_, _%_, _^_}
-use lib.Bits.{bitAnd, bitOr, bitXor}
-use lib.Dec.{ltb}
+use mathlib.Core.List.{List, [], _∷_}
+use Prim.Native.Nat.{ℕ, zero, suc}
 use lib.ListN.{getD}
 use Rattle.constants.specs.Constants.{K}
 use Rattle.octets.specs.Places.{tabulate}
-
-infixl 20 _⊞_
-infixl 25 _⊕_
-infixl 30 _&_
--- FIPS 180-4 §2.2.2: the bitwise operations on words
-abbrev pub _&_ : ℕ → ℕ → ℕ
-x & y = bitAnd x y
-
-abbrev pub _⊕_ : ℕ → ℕ → ℕ
-x ⊕ y = bitXor x y
-
-abbrev pub complement : ℕ → ℕ
-complement x = 2 ^ 32 - 1 - x
-
--- FIPS 180-4 §3.2, 2: the standard's +, modulo 2^32
-abbrev pub _⊞_ : ℕ → ℕ → ℕ
-x ⊞ y = (x + y) % 2 ^ 32
-
--- FIPS 180-4 §2.2.2: <<
-abbrev pub shl : ℕ → ℕ → ℕ
-shl n x = (x * 2 ^ n) % 2 ^ 32
-
--- FIPS 180-4 §3.2, 3: SHR
-abbrev pub shr : ℕ → ℕ → ℕ
-shr n x = x / 2 ^ n
-
--- FIPS 180-4 §3.2, 4: ROTR
-abbrev pub rotr : ℕ → ℕ → ℕ
-rotr n x = bitOr (shr n x) (shl (32 - n) x)
+use Rattle.schedule.specs.Words.{_&_, _⊕_, complement, _⊞_, rotr}
+use Rattle.schedule.specs.Schedule.{schedule}
 
 -- FIPS 180-4 (4.2)
 abbrev pub Ch : ℕ → ℕ → ℕ → ℕ
@@ -53,23 +23,6 @@ abbrev pub Σ0 : ℕ → ℕ
 -- FIPS 180-4 (4.5)
 abbrev pub Σ1 : ℕ → ℕ
 Σ1 x = rotr 6 x ⊕ rotr 11 x ⊕ rotr 25 x
-
--- FIPS 180-4 (4.6)
-abbrev pub σ0 : ℕ → ℕ
-σ0 x = rotr 7 x ⊕ rotr 18 x ⊕ shr 3 x
-
--- FIPS 180-4 (4.7)
-abbrev pub σ1 : ℕ → ℕ
-σ1 x = rotr 17 x ⊕ rotr 19 x ⊕ shr 10 x
-
--- FIPS 180-4 §6.2.2, step 1: W_t, from the block m and the words w before W_t
-unfoldable pub word : List ℕ → List ℕ → ℕ → ℕ
-word m w t = cond (ltb t 16) (getD m t 0) (σ1 (getD w (t - 2) 0) ⊞ getD w (t - 7) 0 ⊞ σ0 (getD w (t - 15) 0) ⊞ getD w (t - 16) 0)
-
--- FIPS 180-4 §6.2.2, step 1: the first t words of the schedule of the block m
-unfoldable pub schedule : ℕ → List ℕ → List ℕ
-schedule zero m = []
-schedule (suc t) m = schedule t m ++ (word m (schedule t m) t ∷ [])
 
 -- FIPS 180-4 §6.2.2, step 3: a round on the words a .. h, at the constant k and the schedule's word w
 unfoldable pub round : ℕ → ℕ → List ℕ → List ℕ

@@ -51,6 +51,7 @@ outcomes = record {
   copy = record { any = λ κs a. tt; one = λ κs a r r′ l l′. again (λ y. tt) (λ y. (y, (tt, tt))) };
   round-constants = record { any = λ κs a. tt; one = λ κs a r r′ l l′. plain };
   initial-hash = record { any = λ κs a. tt; one = λ κs a r r′ l l′. plain };
+  scheduled = record { any = λ κs a. tt; one = λ κs a r r′ l l′. plain };
   compressed = record { any = λ κs a. tt; one = λ κs a r r′ l l′. plain };
   absorb = record { any = λ κs a. tt; one = λ κs a r r′ l l′. plain };
   finish = record { any = λ κs a. tt; one = λ κs a r r′ l l′. plain };

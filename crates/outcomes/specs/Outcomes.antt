@@ -22,6 +22,7 @@ use Rattle.going.proofs.compare as Compare
 use Rattle.lent.proofs.copy as Copy
 use Rattle.constants.proofs.round_constants as RoundConstants
 use Rattle.constants.proofs.initial_hash as InitialHash
+use Rattle.schedule.proofs.scheduled as Scheduled
 use Rattle.compress.proofs.compressed as Compressed
 use Rattle.sha256.proofs.absorb as Absorb
 use Rattle.sha256.proofs.finish as Finish
@@ -87,6 +88,7 @@ pub record Outcomes : Type 1 where
   pub copy : Tight Copy.ended Copy.Reads.Asked Copy.Reads.Learnt
   pub round-constants : Tight RoundConstants.ended RoundConstants.Reads.Asked RoundConstants.Reads.Learnt
   pub initial-hash : Tight InitialHash.ended InitialHash.Reads.Asked InitialHash.Reads.Learnt
+  pub scheduled : Tight Scheduled.ended Scheduled.Reads.Asked Scheduled.Reads.Learnt
   pub compressed : Tight Compressed.ended Compressed.Reads.Asked Compressed.Reads.Learnt
   pub absorb : Tight Absorb.ended Absorb.Reads.Asked Absorb.Reads.Learnt
   pub finish : Tight Finish.ended Finish.Reads.Asked Finish.Reads.Learnt

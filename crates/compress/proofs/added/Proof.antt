@@ -7,7 +7,8 @@ use borrow.Author.Needs.{needs}
 use lib.ListN.{length, getD, drop}
 use Rattle.octets.specs.Places.{tabulate}
 use Rattle.octets.proofs.Places.{fill-step, fill-end}
-use Rattle.compress.specs.Compress.{_⊞_, increased}
+use Rattle.schedule.specs.Words.{_⊞_}
+use Rattle.compress.specs.Compress.{increased}
 use Rattle.compress.proofs.added.Statement.{statement}
 use Rattle.compress.proofs.added.Tie as tie
 

@@ -1,4 +1,4 @@
--- `compress::scheduled` meets its contract: the first t places hold the first t words of the schedule. Assumes nothing.
+-- `schedule::scheduled` meets its contract: the first t places hold the first t words of the schedule. Assumes nothing.
 use mathlib.Core.Path.{_≡_, ap, _∙_}
 use mathlib.Core.List.{_++_}
 use Prim.Native.Nat.{_≤_, _-_}
@@ -6,10 +6,10 @@ use native.Mathlib.Omega.{arith}
 use borrow.Author.Needs.{needs}
 use lib.ListN.{length, set, drop, replicate, List·getD-append}
 use Rattle.octets.proofs.Places.{fill-end}
-use Rattle.compress.specs.Compress.{schedule}
-use Rattle.compress.proofs.Schedule.{schedule-block, schedule-turn, schedule-ext}
-use Rattle.compress.proofs.scheduled.Statement.{statement}
-use Rattle.compress.proofs.scheduled.Tie as tie
+use Rattle.schedule.specs.Schedule.{schedule}
+use Rattle.schedule.proofs.Schedule.{schedule-block, schedule-turn, schedule-ext}
+use Rattle.schedule.proofs.scheduled.Statement.{statement}
+use Rattle.schedule.proofs.scheduled.Tie as tie
 
 abbrev Inv-loop : tie.InvT-loop
 Inv-loop w₀ t₀ w t = (16 ≤ t) × ((t ≤ 64) × (w ≡ schedule t w₀ ++ drop t w₀))

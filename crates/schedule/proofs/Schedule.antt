@@ -13,9 +13,9 @@ use lib.ListN.{length, getD, set, take, drop, length-append, take-append-drop, L
 use lib.Seq.{getD-at, getD-take, length-take-le}
 use Rattle.octets.specs.Places.{tabulate}
 use Rattle.octets.proofs.Places.{fill-next, tabulate-is}
-use Rattle.compress.specs.Compress.{_⊞_, σ0, σ1, word, schedule}
+use Rattle.schedule.specs.Schedule.{following, word, schedule, Scheduled}
 
-pub schedule-length : (t : ℕ) (m : List ℕ) → length (schedule t m) ≡ t
+schedule-length : (t : ℕ) (m : List ℕ) → length (schedule t m) ≡ t
 unfolding schedule
 schedule-length zero m = refl
 schedule-length (suc t) m = rw (length-append, add-one) (ap suc (schedule-length t m))
@@ -28,7 +28,7 @@ word-block : (m w : List ℕ) (t : ℕ) → t < 16 → word m w t ≡ getD m t 0
 unfolding word
 word-block m w t h = rw (lt-ltb t 16 h)
 
-word-later : (m w : List ℕ) (t : ℕ) → 16 ≤ t → word m w t ≡ σ1 (getD w (t - 2) 0) ⊞ getD w (t - 7) 0 ⊞ σ0 (getD w (t - 15) 0) ⊞ getD w (t - 16) 0
+word-later : (m w : List ℕ) (t : ℕ) → 16 ≤ t → word m w t ≡ following w t
 unfolding word
 word-later m w t h = rw (le-ltb t 16 h)
 
@@ -54,12 +54,7 @@ schedule-word (suc n) t m h =
     (λ k. List·getD-append w (x ∷ []) 0 t (omega arith) ∙ schedule-word n t m k ∙ sym (word-append m w (x ∷ []) t (omega arith)))
     (eq-or-lt-of-le (le-of-suc-le-suc h))
 
--- FIPS 180-4 §6.2.2, step 1, in its own words
-pub record Scheduled (m w : List ℕ) : Type 0 where
-  pub size : length w ≡ 64
-  pub first : (t : ℕ) → t < 16 → getD w t 0 ≡ getD m t 0
-  pub later : (t : ℕ) → 16 ≤ t → t < 64 → getD w t 0 ≡ σ1 (getD w (t - 2) 0) ⊞ getD w (t - 7) 0 ⊞ σ0 (getD w (t - 15) 0) ⊞ getD w (t - 16) 0
-
+-- the standard's two equations hold of the schedule
 pub schedule-rule : (m : List ℕ) → Scheduled m (schedule 64 m)
 schedule-rule m = record {
   size = schedule-length 64 m;
@@ -85,7 +80,7 @@ schedule-block w h =
 
 -- a turn of a loop that fills d with the schedule
 pub schedule-turn : (m d w : List ℕ) (t : ℕ) → 16 ≤ t → t < length d → w ≡ schedule t m ++ drop t d
-    → set w t (σ1 (getD w (t - 2) 0) ⊞ getD w (t - 7) 0 ⊞ σ0 (getD w (t - 15) 0) ⊞ getD w (t - 16) 0) ≡ schedule (t + 1) m ++ drop (t + 1) d
+    → set w t (following w t) ≡ schedule (t + 1) m ++ drop (t + 1) d
 unfolding schedule
 schedule-turn m d w t g h e =
     let l = schedule-length t m in

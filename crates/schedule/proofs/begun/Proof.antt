@@ -1,4 +1,4 @@
--- `compress::begun` meets its contract: the first t places hold the first t words of the block. Assumes nothing.
+-- `schedule::begun` meets its contract: the first t places hold the first t words of the block. Assumes nothing.
 use mathlib.Core.Path.{_≡_, refl, ap, _∙_}
 use mathlib.Core.List.{List, _++_}
 use Prim.Native.Nat.{ℕ, _≤_, _-_}
@@ -7,8 +7,8 @@ use borrow.Author.Needs.{needs}
 use lib.ListN.{length, getD, set, drop, replicate}
 use Rattle.octets.specs.Places.{tabulate}
 use Rattle.octets.proofs.Places.{fill-step, tabulate-own}
-use Rattle.compress.proofs.begun.Statement.{statement}
-use Rattle.compress.proofs.begun.Tie as tie
+use Rattle.schedule.proofs.begun.Statement.{statement}
+use Rattle.schedule.proofs.begun.Tie as tie
 
 abbrev Inv-loop : tie.InvT-loop
 Inv-loop m w₀ t₀ w t = (t ≤ 16) × (w ≡ tabulate (λ i. getD m i 0) t ++ drop t (replicate 64 0))
