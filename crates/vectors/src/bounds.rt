@@ -7,28 +7,16 @@ fn size(words: &[u8], n: usize) {
     io::print_decimal(1, n as u64);
 }
 
-// A byte as a number.
-fn wide(b: u8) -> u64 {
-    b as u64
-}
-
-// Is every byte still the one that the buffer was filled with?
-fn unchanged(out: [u8; 33]) -> bool {
-    let mut i = 0;
-    while i < 33 {
-        if out[i] != 0x55 {
-            return false;
-        }
-        i += 1;
-    }
-    true
+// Prints a byte in hexadecimal.
+fn print_byte(b: u8) {
+    io::print_hex(1, b as u64, 2);
 }
 
 // Prints bytes in hexadecimal.
 fn print_bytes(bytes: &[u8]) {
     let mut i = 0;
     while i < bytes.len() {
-        io::print_hex(1, wide(bytes[i]), 2);
+        print_byte(bytes[i]);
         i += 1;
     }
 }
@@ -36,9 +24,9 @@ fn print_bytes(bytes: &[u8]) {
 // Prints a number, and the output buffer where it changed.
 fn print_answer(number: u8, out: [u8; 33]) {
     io::write_all(1, b": ");
-    io::print_decimal(1, wide(number));
+    io::print_decimal(1, number as u64);
     io::write_all(1, b" ");
-    if unchanged(out) {
+    if check::same(&out, &[0x55u8; 33]) {
         io::write_all(1, b"unchanged");
     } else {
         print_bytes(&out[0..32]);

@@ -1,7 +1,7 @@
 // Runs the published vectors of SHA-256 and of HMAC with it by the proved functions, calls these at the bounds of their sizes, and prints an entry's tag.
 mod bounds;
 mod cases;
-mod text;
+mod values;
 
 fn main() {
     cases::run(b"SHA256ShortMsg.rsp", b"SHA256ShortMsg", false);
