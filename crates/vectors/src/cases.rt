@@ -2,7 +2,9 @@
 use crate::values;
 use std::num::wrapping_add_u64;
 use text::Number;
+ghost use mathlib.Core.Path.{_≡_};
 ghost use Prim.Native.Nat.{_≤_};
+ghost use lib.ListN.{length};
 
 // How many cases there are, by their `Len` lines, how many agree, and how many of these by a tag that was cut.
 pub struct Seen {
@@ -82,15 +84,14 @@ fn all(file: &[u8], keyed: bool) -> Seen {
 }
 
 // Prints some words and a number.
-fn part(words: &[u8], n: u64) {
+pub fn part(words: &[u8], n: u64) {
     io::write_all(1, words);
     io::print_decimal(1, n);
 }
 
 // Prints how many cases agree.
 fn report(name: &[u8], s: Seen) {
-    io::write_all(1, name);
-    part(b" ", s.agree);
+    part(name, s.agree);
     part(b" of ", s.cases);
     io::write_all(1, b" agree");
     if s.cut > 0 {
@@ -100,9 +101,16 @@ fn report(name: &[u8], s: Seen) {
     io::write_all(1, b"\n");
 }
 
+// Room for a file.
+fn room() -> [u8; 524288]
+    ensures { λ r. ⌜ 524288 ≡ length r ⌝ }
+{
+    [0; 524288]
+}
+
 // Runs the cases of a file, and prints how many agree.
 pub fn run(path: &[u8], name: &[u8], keyed: bool) {
-    let mut file = [0u8; 524288];
+    let mut file = room();
     let fd = os::open_read(path);
     let n = io::read_full(fd, &mut file);
     libc::close(fd);
