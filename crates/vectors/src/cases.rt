@@ -30,9 +30,8 @@ fn mac(case: &[u8], message: &[u8], out: &mut [u8]) {
 fn given(case: &[u8], keyed: bool) -> [u8; 32] {
     let mut out = [0u8; 32];
     if let Number::Of(bits) = text::decimal(values::value(case)) {
-        let size = bits as usize / 8;
         let mut buffer = [0u8; 8192];
-        let message = &mut buffer[0..size];
+        let message = &mut buffer[0..bits as usize / 8];
         values::named(case, b"Msg = ", message);
         if keyed {
             mac(case, message, &mut out);

@@ -28,7 +28,7 @@ pub fn value(text: &[u8]) -> &[u8] {
 
 // Writes the bytes that a value spells in hexadecimal to `out`: false where these are not exactly so many.
 pub fn bytes(value: &[u8], out: &mut [u8]) -> bool {
-    if value.len() / 2 != out.len() || value.len() % 2 != 0 {
+    if value.len() != 2 * out.len() {
         return false;
     }
     let mut n = 0;
