@@ -1,44 +1,26 @@
 // Calls with sizes at their bounds and one beside them: each prints its sizes, the number given, and the bytes of the output or that none changed.
+use crate::cases::part;
 ghost use Prim.Native.Nat.{_≤_};
 
-// Prints some words and a size.
-fn size(words: &[u8], n: usize) {
-    io::write_all(1, words);
-    io::print_decimal(1, n as u64);
-}
-
-// A byte as a number.
-fn wide(b: u8) -> u64 {
-    b as u64
-}
-
-// Is every byte still the one that the buffer was filled with?
-fn unchanged(out: [u8; 33]) -> bool {
-    let mut i = 0;
-    while i < 33 {
-        if out[i] != 0x55 {
-            return false;
-        }
-        i += 1;
-    }
-    true
+// Prints a byte in hexadecimal.
+fn print_byte(b: u8) {
+    io::print_hex(1, b as u64, 2);
 }
 
 // Prints bytes in hexadecimal.
 fn print_bytes(bytes: &[u8]) {
     let mut i = 0;
     while i < bytes.len() {
-        io::print_hex(1, wide(bytes[i]), 2);
+        print_byte(bytes[i]);
         i += 1;
     }
 }
 
 // Prints a number, and the output buffer where it changed.
 fn print_answer(number: u8, out: [u8; 33]) {
-    io::write_all(1, b": ");
-    io::print_decimal(1, wide(number));
+    part(b": ", number as u64);
     io::write_all(1, b" ");
-    if unchanged(out) {
+    if check::same(&out, &[0x55u8; 33]) {
         io::write_all(1, b"unchanged");
     } else {
         print_bytes(&out[0..32]);
@@ -53,8 +35,8 @@ fn digest(n: usize, room: usize)
     let message = [0xaau8; 8193];
     let mut out = [0x55u8; 33];
     let number = sha256::digest(&message[0..n], &mut out[0..room]);
-    size(b"digest of ", n);
-    size(b" into ", room);
+    part(b"digest of ", n as u64);
+    part(b" into ", room as u64);
     print_answer(number, out);
 }
 
@@ -66,9 +48,9 @@ fn mac(k: usize, n: usize, room: usize)
     let message = [0xaau8; 4097];
     let mut out = [0x55u8; 33];
     let number = hmac::mac(&key[0..k], &message[0..n], &mut out[0..room]);
-    size(b"HMAC under ", k);
-    size(b" of ", n);
-    size(b" into ", room);
+    part(b"HMAC under ", k as u64);
+    part(b" of ", n as u64);
+    part(b" into ", room as u64);
     print_answer(number, out);
 }
 
@@ -94,18 +76,21 @@ pub fn macs() {
     mac(1024, 4096, 33);
 }
 
-// The tag of 33 bytes under a key of 32.
-pub fn tag() {
-    let tag = hmac::tag([0xccu8; 32], [0xaau8; 33]);
-    io::write_all(1, b"tag under 32 of 33: ");
+// Prints some words and a tag.
+fn print_tag(words: &[u8], tag: [u8; 32]) {
+    io::write_all(1, words);
     print_bytes(&tag);
     io::write_all(1, b"\n");
 }
 
-// The tag of an entry under a key of zeros: address 5, a value of zeros, stamp 3.
-pub fn entry() {
-    let tag = multiset::tag([0u8; 32], 5, [0u8; 28], 3);
-    io::write_all(1, b"tag of an entry: ");
-    print_bytes(&tag);
-    io::write_all(1, b"\n");
+// The tag of 33 bytes under a key of 32, and the tag of an entry under a key of zeros: address 5, a value of zeros, stamp 3.
+pub fn tags() {
+    print_tag(
+        b"tag under 32 of 33: ",
+        hmac::tag([0xccu8; 32], [0xaau8; 33]),
+    );
+    print_tag(
+        b"tag of an entry: ",
+        multiset::tag([0u8; 32], 5, [0u8; 28], 3),
+    );
 }

@@ -1,43 +1,36 @@
--- No more bytes are spelled than `out` has, whose length stays; what is left of them falls.
+-- What is left of the text falls.
 -- Assumes nothing.
-use mathlib.Core.Path.{_≡_}
-use Prim.Native.Nat.{_≤_, _-_}
 use borrow.Author.Needs.{needs}
+use Prim.Native.Nat.{_-_}
 use lib.ListN.{length}
-use Rattle.vectors.proofs.text.hexadecimal.Statement.{statement}
-use Rattle.vectors.proofs.text.hexadecimal.Tie as tie
+use Rattle.vectors.proofs.values.after.Statement.{statement}
+use Rattle.vectors.proofs.values.after.Tie as tie
 
 abbrev Inv-loop : tie.InvT-loop
-Inv-loop digits out₀ size n₀ out n = (n ≤ size) × (length out ≡ length out₀)
+Inv-loop text name at₀ at = Unit {0}
 
 abbrev μ-loop : tie.MeasureT-loop
-μ-loop digits out₀ size n₀ out n = size - n
+μ-loop text name at₀ at = length text - at
 
-pub hexadecimal-spec : {M : Type 1} → statement M
-hexadecimal-spec =
+pub after-spec : {M : Type 1} → statement M
+after-spec =
     tie.close
     (tie.spec
     Inv-loop
     μ-loop
     (λ c. search needs)
-    (λ c κs. search needs)
-    (λ c. search needs)
-    (λ c κs. search needs)
     (λ c. search needs)
     (λ c. search needs)
     (λ c. search needs)
     (λ c. search needs)
-    (λ c κs. search needs)
-    (λ c. search needs)
-    (λ c. search needs)
-    (λ c. search needs)
-    (λ c κs. search needs)
-    (λ c κs. search needs)
     (λ c. search needs)
     (λ c. search needs)
     (λ c κs. search needs)
     (λ c. search needs)
     (λ c. search needs)
+    (λ c. search needs)
+    (λ c. search needs)
+    (λ c κs. search needs)
     (λ c. search needs)
     (λ c. search needs)
     (λ c. search needs)
