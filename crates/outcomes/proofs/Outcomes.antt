@@ -52,6 +52,7 @@ outcomes = record {
   round-constants = record { any = λ κs a. tt; one = λ κs a r r′ l l′. plain };
   initial-hash = record { any = λ κs a. tt; one = λ κs a r r′ l l′. plain };
   scheduled = record { any = λ κs a. tt; one = λ κs a r r′ l l′. plain };
+  one-round = record { any = λ κs a. tt; one = λ κs a r r′ l l′. plain };
   compressed = record { any = λ κs a. tt; one = λ κs a r r′ l l′. plain };
   absorb = record { any = λ κs a. tt; one = λ κs a r r′ l l′. plain };
   finish = record { any = λ κs a. tt; one = λ κs a r r′ l l′. plain };
@@ -72,6 +73,9 @@ outcomes = record {
   tag = record { any = λ κs a. tt; one = λ κs a r r′ l l′. plain };
   with-tag = record { any = λ κs a. tt; one = λ κs a r r′ l l′. plain };
   same = record { any = λ κs a. tt; one = λ κs a r r′ l l′. plain };
+  agrees = record { any = λ κs a. tt; one = λ κs a r r′ l l′. plain };
+  opened = record { any = λ κs a. tt; one = λ κs a r r′ l l′. plain };
+  shut = record { any = λ κs a. tt; one = λ κs a r r′ l l′. plain };
   decimal = record { any = λ κs a. tt; one = λ κs a r r′ l l′. plain };
   hex = record { any = λ κs a. tt; one = λ κs a r r′ l l′. plain };
   put = record { any = λ κs a. tt; one = λ κs a r r′ l l′. again place (λ y. (y .bytes, (tt, (tt, tt)))) };

@@ -23,6 +23,7 @@ use Rattle.lent.proofs.copy as Copy
 use Rattle.constants.proofs.round_constants as RoundConstants
 use Rattle.constants.proofs.initial_hash as InitialHash
 use Rattle.schedule.proofs.scheduled as Scheduled
+use Rattle.round.proofs.one_round as OneRound
 use Rattle.compress.proofs.compressed as Compressed
 use Rattle.sha256.proofs.absorb as Absorb
 use Rattle.sha256.proofs.finish as Finish
@@ -43,6 +44,9 @@ use Rattle.multiset.proofs.message as Message
 use Rattle.multiset.proofs.tag as Tag
 use Rattle.multiset.proofs.with_tag as WithTag
 use Rattle.multiset.proofs.same as Same
+use Rattle.periods.proofs.agrees as Agrees
+use Rattle.periods.proofs.opened as Opened
+use Rattle.periods.proofs.shut as Shut
 use Rattle.text.proofs.decimal as Decimal
 use Rattle.text.proofs.hex as Hex
 use Rattle.page.proofs.put as Put
@@ -89,6 +93,7 @@ pub record Outcomes : Type 1 where
   pub round-constants : Tight RoundConstants.ended RoundConstants.Reads.Asked RoundConstants.Reads.Learnt
   pub initial-hash : Tight InitialHash.ended InitialHash.Reads.Asked InitialHash.Reads.Learnt
   pub scheduled : Tight Scheduled.ended Scheduled.Reads.Asked Scheduled.Reads.Learnt
+  pub one-round : Tight OneRound.ended OneRound.Reads.Asked OneRound.Reads.Learnt
   pub compressed : Tight Compressed.ended Compressed.Reads.Asked Compressed.Reads.Learnt
   pub absorb : Tight Absorb.ended Absorb.Reads.Asked Absorb.Reads.Learnt
   pub finish : Tight Finish.ended Finish.Reads.Asked Finish.Reads.Learnt
@@ -109,6 +114,9 @@ pub record Outcomes : Type 1 where
   pub tag : Tight Tag.ended Tag.Reads.Asked Tag.Reads.Learnt
   pub with-tag : Tight WithTag.ended WithTag.Reads.Asked WithTag.Reads.Learnt
   pub same : Tight Same.ended Same.Reads.Asked Same.Reads.Learnt
+  pub agrees : Tight Agrees.ended Agrees.Reads.Asked Agrees.Reads.Learnt
+  pub opened : Tight Opened.ended Opened.Reads.Asked Opened.Reads.Learnt
+  pub shut : Tight Shut.ended Shut.Reads.Asked Shut.Reads.Learnt
   -- the bench's library, and the calls that are measured
   pub decimal : Tight Decimal.ended Decimal.Reads.Asked Decimal.Reads.Learnt
   pub hex : Tight Hex.ended Hex.Reads.Asked Hex.Reads.Learnt

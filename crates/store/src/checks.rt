@@ -1,11 +1,9 @@
 // The parts of a check.
-use state::Hash;
 use state::State;
 ghost use mathlib.Core.Path.{_≡_};
 ghost use lib.ListN.{length};
 ghost use Rattle.state.specs.Sizes.{width, addresses, storeSize};
-ghost use Rattle.state.specs.Step.{shut};
-ghost use Rattle.state.specs.Check.{opened, agrees, takeBelow, openBelow, putBelow};
+ghost use Rattle.state.specs.Check.{takeBelow, openBelow, putBelow};
 ghost use Rattle.multiset.specs.Tag.{tag};
 
 // Every address in use is taken, lowest first.
@@ -23,30 +21,6 @@ pub fn take_all(s: State, store: &[u8]) -> State
     r
 }
 
-// Are the hashes equal, and no fault marked.
-pub fn agrees(s: State) -> bool
-    ensures { λ r. ⌜ r ≡ agrees s ⌝ }
-{
-    let p = s.put;
-    let t = s.take;
-    multiset::same(p, t) && !s.fault
-}
-
-// A new period: empty hashes, and the clock at 1.
-fn opened(s: State) -> State
-    ensures { λ r. ⌜ r ≡ opened s ⌝ }
-{
-    let none = Hash {
-        tag: [0u8; State::KEY],
-        number: 0,
-    };
-    let mut r = s;
-    r.put = none;
-    r.take = none;
-    r.clock = 1;
-    r
-}
-
 // The puts that begin a period: at each address in use its value, with stamp 1.
 pub fn put_all(s: State, store: &mut [u8]) -> State
     requires { ⌜ length (now store) ≡ storeSize width ⌝ }
@@ -54,21 +28,12 @@ pub fn put_all(s: State, store: &mut [u8]) -> State
         × (now (store .exit) ≡ putBelow width (s .marks) (now (store .entry)) addresses) ⌝ }
 {
     let m = s.marks;
-    let mut r = opened(s);
+    let mut r = periods::opened(s);
     let mut a = marks::next_used(m, 0);
     while a < State::ADDRESSES {
         let v = crate::cells::value_at(store, a);
         r = crate::moves::put_entry(r, store, a, v, 1);
         a = marks::next_used(m, a + 1);
     }
-    r
-}
-
-// The state, closed.
-pub fn shut(s: State) -> State
-    ensures { λ r. ⌜ r ≡ shut s ⌝ }
-{
-    let mut r = s;
-    r.closed = true;
     r
 }

@@ -86,7 +86,7 @@ pub fn check(s: State, store: &mut [u8]) -> Checked
             state: s,
         };
     }
-    if checks::agrees(checks::take_all(s, store)) {
+    if periods::agrees(checks::take_all(s, store)) {
         let state = checks::put_all(s, store);
         return Checked {
             number: 0,
@@ -97,7 +97,7 @@ pub fn check(s: State, store: &mut [u8]) -> Checked
     Checked {
         number: 0,
         verdict: Verdict::Reject,
-        state: checks::shut(s),
+        state: periods::shut(s),
     }
 }
 

@@ -1,7 +1,0 @@
--- `compress::big1` is equation (4.5), operation by operation. Assumes nothing.
-use mathlib.Core.Path.{refl}
-use Rattle.compress.proofs.big1.Statement.{statement}
-use Rattle.compress.proofs.big1.Tie as tie
-
-pub big1-spec : {M : Type 1} → statement M
-big1-spec = tie.close (tie.spec (λ c. refl))
