@@ -1,4 +1,4 @@
--- 01, "Numbers given back", a row at a time.
+-- 01, "Numbers given back", a row at a time: for the contract of the private function `row` alone. No public contract and no statement cites it.
 -- Assumes nothing.
 use mathlib.Core.Bool.{cond}
 use Prim.Native.Nat.{ℕ}

@@ -1,15 +1,16 @@
 -- Closed examples compute; where the buffer, the member or the serial is free, the calls' laws leave what computes. Assumes nothing.
 use mathlib.Core.Path.{_≡_, refl, sym, ap, _∙_}
 use mathlib.Core.List.{List, [], _∷_, _++_}
-use Prim.Native.Nat.{ℕ, _/_, _%_, _^_, _<_}
+use Prim.Native.Nat.{ℕ, _/_, _%_, _^_, _<_, _≤_}
 use native.Mathlib.Omega.{arith}
 use lib.ListN.{length, take, replicate}
-use borrow.Author.Tests.{ne-eqb}
+use borrow.Author.Tests.{ne-eqb, le-leb}
 use Rattle.octets.specs.Layout.{total, join, split, octets, number, bytes}
 use Rattle.octets.proofs.Layouts.{fit-test, fit-each}
 use Rattle.refusal.specs.Refusal.{Filled, filled, first}
-use Rattle.filter.specs.Filter.{FieldsFit, partsIn, spareIn, filterIn, bytesOf, setPast, filterRows, unpackRows, packOf, unpackOf}
-use Rattle.filter.specs.declared.Family.the-variants.{Ipv4, Ipv6}
+use Rattle.filter.specs.Filter.{topOf, FieldsFit, partsIn, spareIn, filterIn, bytesOf, setPast, filterRows, unpackRows, packOf, unpackOf}
+use Rattle.filter.specs.declared.Family.{Family}
+use Rattle.filter.specs.declared.Action.{Action}
 use Rattle.promises.specs.Filters.{permit, Example6, Example7, Example8, Example9, Example10, deny11, Example11, zeros, ZerosLawful}
 use Rattle.filter.proofs.Calls.{pack-refused, pack-done}
 use Rattle.filter.proofs.Fields.{written, front-number, word-of}
@@ -60,7 +61,9 @@ example-11 a s p h g out l =
         (fit-each (octets 12) hs (omega arith, (omega arith, (omega arith, (omega arith, (omega arith, (omega arith, (omega arith, (omega arith, (omega arith, (omega arith, (omega arith, (omega arith, tt)))))))))))))
         refl refl (front-number 1 0 128 128 0 a s _ _ _ _ _ _ _ _ _ _ _ _ (omega arith) (word-of a) (word-of s))
 
-pub zeros-lawful : ZerosLawful
+zeros-rows : (f : Family) (x : Action) (l a : ℕ) → l ≤ topOf f → 0 < a → first (filterRows (zeros f x l a)) ≡ 0
 unfolding filterRows setPast number join total
-zeros-lawful Ipv4 out l = sym (ap (λ (x : Filled). x .number) (pack-done (zeros Ipv4) out l refl))
-zeros-lawful Ipv6 out l = sym (ap (λ (x : Filled). x .number) (pack-done (zeros Ipv6) out l refl))
+zeros-rows f x l a h p = simp (le-leb 0 l (omega arith), le-leb l (topOf f) h, ne-eqb a 0 (λ e. omega arith))
+
+pub zeros-lawful : ZerosLawful
+zeros-lawful f x l a h p out e = sym (ap (λ (x : Filled). x .number) (pack-done (zeros f x l a) out e (zeros-rows f x l a h p)))

@@ -2,12 +2,13 @@
 -- Assumes nothing.
 use mathlib.Core.Path.{_≡_}
 use mathlib.Core.List.{List, [], _∷_, _++_}
-use Prim.Native.Nat.{ℕ, _^_, _<_}
+use Prim.Native.Nat.{ℕ, _^_, _<_, _≤_}
 use lib.ListN.{length, take, set, replicate}
 use Rattle.refusal.specs.Refusal.{filled}
-use Rattle.filter.specs.Filter.{bytesOf, packOf, unpackOf, unpacked, zeroFilter}
+use Rattle.filter.specs.Filter.{topOf, bytesOf, packOf, unpackOf, unpacked, zeroFilter}
 use Rattle.filter.specs.declared.Family.{Family}
 use Rattle.filter.specs.declared.Family.the-variants.{Ipv4, Ipv6}
+use Rattle.filter.specs.declared.Action.{Action}
 use Rattle.filter.specs.declared.Action.the-variants.{Deny, Permit}
 use Rattle.filter.specs.declared.FilterRecord.{FilterRecord}
 
@@ -46,9 +47,9 @@ abbrev pub Example11 : Type 0
 Example11 = (a s : ℕ) → 0 < a → a < 2 ^ 32 → s < 2 ^ 32 → (out : List ℕ) → length out ≡ 28
     → (packOf (deny11 a s) out .number ≡ 0) × (take 4 (packOf (deny11 a s) out .out) ≡ 0xA0 ∷ 0x20 ∷ 0x00 ∷ 0x00 ∷ [])
 
--- length 0, longest length 0 and serial 0, of either family: pack takes it
-abbrev pub zeros : Family → FilterRecord
-zeros f = record { family = f; action = Permit; length = 0; longest = 0; member = 1; serial = 0; prefix = replicate 16 0 }
+-- length 0 and serial 0, with any lawful longest length and member: pack takes it
+abbrev pub zeros : Family → Action → ℕ → ℕ → FilterRecord
+zeros f x l a = record { family = f; action = x; length = 0; longest = l; member = a; serial = 0; prefix = replicate 16 0 }
 
 abbrev pub ZerosLawful : Type 0
-ZerosLawful = (f : Family) (out : List ℕ) → length out ≡ 28 → packOf (zeros f) out .number ≡ 0
+ZerosLawful = (f : Family) (x : Action) (l a : ℕ) → l ≤ topOf f → 0 < a → (out : List ℕ) → length out ≡ 28 → packOf (zeros f x l a) out .number ≡ 0
