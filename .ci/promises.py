@@ -1,11 +1,13 @@
 """Holds docs/ to the repository: every statement and every must-fail edit that a page names is there.
 
 A statement is named as `crate/specs/File.antt` `name`, where further names of the same file may follow, each in its own backquotes;
-a must-fail edit as `crate!label`. Prints what is missing; exit status 1 where something is, or where a page names nothing.
+a must-fail edit as `crate!label`, by the label of one of the crate's wrong programs. Prints what is missing; exit status 1 where something is, or where a page names nothing.
 """
 import pathlib
 import re
 import sys
+
+from edits import labels
 
 top = pathlib.Path(__file__).resolve().parent.parent
 pages = [top / "docs" / name for name in ("PROMISES.md", "TIGHTNESS.md")]
@@ -27,7 +29,7 @@ for page in pages:
             edit = re.fullmatch(r"(\w+)!([\w-]+)", piece)
             if edit:
                 here += 1
-                if not (top / "crates" / edit[1] / "must-fail" / f"{edit[2]}.edit").exists():
+                if edit[2] not in labels(top / "crates" / edit[1]):
                     missing.append(f"{page.name}: no edit {piece}")
             elif re.fullmatch(r"[\w./-]+\.(antt|rt|py|sh|md|txt)", piece):
                 path = top / "crates" / piece if (top / "crates" / piece).exists() else top / piece

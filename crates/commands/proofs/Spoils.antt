@@ -1,12 +1,8 @@
--- A spoil by its one row, and the cell that it writes. Assumes nothing.
+-- A spoil by its one row. Assumes nothing.
 use borrow.Author.Tests.{lt-ltb, le-ltb}
-use mathlib.Core.Path.{_≡_, sym, ap}
-use mathlib.Core.List.{List, [], _∷_, _++_}
-use native.Mathlib.Omega.{arith}
-use Prim.Native.Nat.{ℕ, _/_, _%_, _≤_, _<_}
-use lib.ListN.{replicate}
-use Rattle.octets.specs.Layout.{bytes}
-use Rattle.octets.proofs.Layouts.{bytes-2}
+use mathlib.Core.Path.{_≡_}
+use mathlib.Core.List.{List}
+use Prim.Native.Nat.{ℕ, _≤_, _<_}
 use Rattle.refusal.specs.Refusal.{filled}
 use Rattle.state.specs.Sizes.{width, addresses}
 use Rattle.state.specs.Cells.{writeCell}
@@ -20,8 +16,3 @@ module _ (m : List ℕ) (a v t : ℕ) where
   pub spoil-refused : 1024 ≤ a → spoilOf m a v t ≡ filled 2 m
   unfolding spoilOf addresses
   spoil-refused h = simp (le-ltb a 1024 h)
-
-pub cell-filled : (v t : ℕ) → t < 65536 → replicate 28 v ++ ((t / 256) ∷ (t % 256) ∷ []) ≡ replicate 28 v ++ bytes 2 t
-cell-filled v t h =
-    let q : t / 256 % 256 ≡ t / 256 = omega arith in
-    ap (λ l. replicate 28 v ++ l) (sym (rw q at (bytes-2 t)))

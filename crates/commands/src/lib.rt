@@ -5,9 +5,7 @@ use lines::Command;
 use state::State;
 use state::Verdict;
 ghost use mathlib.Core.Path.{_≡_};
-ghost use mathlib.Core.List.{_++_};
 ghost use lib.ListN.{length};
-ghost use Rattle.octets.specs.Layout.{bytes};
 ghost use Rattle.refusal.specs.Refusal.{filled};
 ghost use Rattle.state.specs.Sizes.{width, storeSize};
 ghost use Rattle.lines.specs.declared.Command.the-variants.{Add, Store, Load, Remove, Check, Spoil};
@@ -136,16 +134,9 @@ fn spoil(store: &mut [u8], a: usize, v: u8, t: u16) -> u8
         return 2;
     }
     let from = State::CELL * a;
-    lent::copy(&mut store[from..from + State::CELL], &cell_of(v, t));
+    lent::copy(
+        &mut store[from..from + State::CELL],
+        &entries::cell([v; State::VALUE], t),
+    );
     0
-}
-
-// A cell's bytes.
-fn cell_of(v: u8, t: u16) -> [u8; State::CELL]
-    ensures { λ r. ⌜ r ≡ filledWith v ++ bytes width t ⌝ }
-{
-    let mut cell = [v; State::CELL];
-    cell[State::VALUE] = (t / 256) as u8;
-    cell[State::VALUE + 1] = (t % 256) as u8;
-    cell
 }

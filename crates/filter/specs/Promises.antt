@@ -7,7 +7,7 @@ use mathlib.Core.List.{List}
 use mathlib.Core.Logic.{_↔_}
 use Prim.Native.Nat.{ℕ}
 use lib.ListN.{length}
-use Rattle.refusal.specs.Refusal.{Given, filled}
+use Rattle.refusal.specs.Refusal.{Given, filled, FillsExactly}
 use Rattle.filter.specs.Filter.{FieldsFit, BytesFit, Lawful, LawfulBytes, packRows, unpackRows, packOf, unpackOf, unpacked, zeroFilter}
 use Rattle.filter.specs.declared.FilterRecord.{FilterRecord}
 
@@ -28,7 +28,6 @@ pub record OneToOne : Type 0 where
 
 -- each number exactly; a refused pack leaves every byte, a refused unpack gives a filter record with all fields zero
 pub record Numbers : Type 0 where
-  pub pack-exactly : (n : ℕ) (r : FilterRecord) (out : List ℕ) → (packOf r out .number ≡ n) ↔ Given n (packRows r out)
-  pub unpack-exactly : (n : ℕ) (bs : List ℕ) → (unpackOf bs .number ≡ n) ↔ Given n (unpackRows bs)
-  pub pack-keeps : (r : FilterRecord) (out : List ℕ) → (packOf r out .number ≡ 0 → ⊥) → packOf r out .out ≡ out
+  pub pack : (r : FilterRecord) (out : List ℕ) → FillsExactly (packRows r out) (packOf r out) out
+  pub unpack : (n : ℕ) (bs : List ℕ) → (unpackOf bs .number ≡ n) ↔ Given n (unpackRows bs)
   pub unpack-zeros : (bs : List ℕ) → (unpackOf bs .number ≡ 0 → ⊥) → unpackOf bs .filter ≡ zeroFilter

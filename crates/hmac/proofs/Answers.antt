@@ -1,5 +1,5 @@
 -- What `mac` gives, by the sizes of what it is given. Assumes nothing.
-use mathlib.Core.Path.{_≡_, sym, ap, _∙_}
+use mathlib.Core.Path.{_≡_, sym, _∙_}
 use mathlib.Core.Bool.{Bool, true, false, _||_, or-true}
 use mathlib.Core.List.{List}
 use Prim.Native.Nat.{ℕ, _<_, _≤_}
@@ -7,7 +7,6 @@ use lib.Dec.{ltb}
 use lib.ListN.{length}
 use borrow.Author.Tests.{lt-ltb, le-ltb}
 use Rattle.lent.specs.Lent.{copied}
-use Rattle.lent.proofs.Copied.{copied-all}
 use Rattle.refusal.specs.Refusal.{filled}
 use Rattle.sha256.specs.Sha256.{not32}
 use Rattle.sha256.proofs.Answers.{fills-refused, fills-done, not32-holds, not32-fails}
@@ -40,5 +39,4 @@ module _ (key text out : List ℕ) where
   unfolding macOf
   mac-done d new k m o e c =
       let b : outside ≡ false = rw (le-ltb 1024 (length key) k, le-ltb 4096 (length text) m, not32-fails out o) in
-      let n : length out ≡ length d = o ∙ sym (ap length e ∙ hmac-length key text) in
-      ap (filled 0) (c ∙ copied-all out d n ∙ e) ∙ fills-done 9 _ (hmac key text) out b
+      fills-done 9 _ (hmac key text) out d new b (o ∙ sym (hmac-length key text)) e c

@@ -31,7 +31,7 @@ fn key_block(key: &[u8]) -> [u8; 64]
     zero_filled(key)
 }
 
-// A block, exclusive-or v in each byte.
+// A block with v exclusive-ored into each byte.
 fn xored(b: [u8; 64], v: u8) -> [u8; 64]
     ensures { λ r. ⌜ r ≡ xor b (replicate 64 v) ⌝ }
 {
@@ -44,8 +44,8 @@ fn xored(b: [u8; 64], v: u8) -> [u8; 64]
     x
 }
 
-// The hash after a block, exclusive-or v in each byte.
-fn state(b: [u8; 64], v: u8) -> [u32; 8]
+// The hash after a block with v exclusive-ored into each byte.
+fn hash_after(b: [u8; 64], v: u8) -> [u32; 8]
     ensures { λ r. ⌜ r ≡ absorbed H0 (xor b (replicate 64 v)) ⌝ }
 {
     let x = xored(b, v);
@@ -53,17 +53,17 @@ fn state(b: [u8; 64], v: u8) -> [u32; 8]
 }
 
 // The hash after the inner block of a key whose block is b.
-fn inner_state(b: [u8; 64]) -> [u32; 8]
+fn inner_hash(b: [u8; 64]) -> [u32; 8]
     ensures { λ r. ⌜ r ≡ absorbed H0 (xor b ipad) ⌝ }
 {
-    state(b, 0x36)
+    hash_after(b, 0x36)
 }
 
 // The hash after the outer block of a key whose block is b.
-fn outer_state(b: [u8; 64]) -> [u32; 8]
+fn outer_hash(b: [u8; 64]) -> [u32; 8]
     ensures { λ r. ⌜ r ≡ absorbed H0 (xor b opad) ⌝ }
 {
-    state(b, 0x5c)
+    hash_after(b, 0x5c)
 }
 
 // The outer hash of a text by the two hashes after a key's blocks.
@@ -98,7 +98,7 @@ pub fn mac(key: &[u8], message: &[u8], out: &mut [u8]) -> u8
         return 10;
     }
     let b = key_block(key);
-    let h = hash_from(inner_state(b), outer_state(b), message);
+    let h = hash_from(inner_hash(b), outer_hash(b), message);
     let d = sha256::hash_bytes(h);
     lent::copy(out, &d);
     0
@@ -109,5 +109,5 @@ pub fn tag(key: [u8; 32], message: [u8; 33]) -> [u8; 32]
     ensures { λ r. ⌜ r ≡ hmac key message ⌝ }
 {
     let b = zero_filled(&key);
-    tag_from(inner_state(b), outer_state(b), message)
+    tag_from(inner_hash(b), outer_hash(b), message)
 }

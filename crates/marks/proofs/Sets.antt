@@ -9,11 +9,11 @@ use native.Mathlib.Omega.{arith}
 use lib.ListN.{length, length-append}
 use borrow.Author.Tests.{eq-eqb, ne-eqb, not-true, not-false}
 use Rattle.state.specs.Sizes.{addresses}
-use Rattle.state.specs.Marks.{used, countBelow, countOf, lowestFrom}
+use Rattle.state.specs.Marks.{used, countBelow, countOf, firstFrom, lowestFree}
 use Rattle.state.specs.Check.{inUse}
 use Rattle.state.specs.Moves.{lowestOf, freeNumber}
 use Rattle.state.specs.declared.Free.the-variants.{At, Full}
-use Rattle.marks.specs.Next.{firstFrom, nextUsed}
+use Rattle.marks.specs.Next.{nextUsed}
 use Rattle.marks.specs.Sets.{Distinct, Counted, Lowest, AllUsed}
 
 -- the addresses in use below n
@@ -115,29 +115,22 @@ first-is p (suc k) a = step (p a) refl (first-is p k (suc a))
 abbrev pub free : List ℕ → ℕ → Bool
 free ws a = not (used ws a)
 
-pub lowest-first : (ws : List ℕ) (k a : ℕ) → lowestFrom k a ws ≡ firstFrom (free ws) k a
-unfolding lowestFrom firstFrom
-lowest-first ws zero a = refl
-lowest-first ws (suc k) a = step (used ws a) (lowest-first ws k (suc a))
-  where
-    step : (t : Bool) → lowestFrom k (suc a) ws ≡ firstFrom (free ws) k (suc a) → cond t (lowestFrom k (suc a) ws) a ≡ cond (not t) a (firstFrom (free ws) k (suc a))
-    step true e = e
-    step false e = refl
+pub lowest-is : (ws : List ℕ) → First (free ws) addresses 0 (lowestFree ws)
+unfolding lowestFree
+lowest-is ws = first-is (free ws) addresses 0
 
-pub lowest-is : (ws : List ℕ) → First (free ws) addresses 0 (lowestFrom addresses 0 ws)
-lowest-is ws = rw (lowest-first ws addresses 0) (first-is (free ws) addresses 0)
-
-pub lowest-only : (ws : List ℕ) (r : ℕ) → First (free ws) addresses 0 r → lowestFrom addresses 0 ws ≡ r
-lowest-only ws r f = lowest-first ws addresses 0 ∙ first-only (free ws) addresses 0 r f
+pub lowest-only : (ws : List ℕ) (r : ℕ) → First (free ws) addresses 0 r → lowestFree ws ≡ r
+unfolding lowestFree
+lowest-only ws r f = first-only (free ws) addresses 0 r f
 
 -- an address where the search ends below the last, and else none
-at-below : (ws : List ℕ) → lowestFrom addresses 0 ws < addresses → lowestOf ws ≡ At (lowestFrom addresses 0 ws)
+at-below : (ws : List ℕ) → lowestFree ws < addresses → lowestOf ws ≡ At (lowestFree ws)
 unfolding lowestOf
-at-below ws h = rw (ne-eqb (lowestFrom addresses 0 ws) addresses (λ e. omega arith))
+at-below ws h = rw (ne-eqb (lowestFree ws) addresses (λ e. omega arith))
 
-full-at : (ws : List ℕ) → lowestFrom addresses 0 ws ≡ addresses → lowestOf ws ≡ Full
+full-at : (ws : List ℕ) → lowestFree ws ≡ addresses → lowestOf ws ≡ Full
 unfolding lowestOf
-full-at ws e = rw (eq-eqb (lowestFrom addresses 0 ws) addresses e)
+full-at ws e = rw (eq-eqb (lowestFree ws) addresses e)
 
 pub lowest-at : (ws : List ℕ) (a : ℕ) → (lowestOf ws ≡ At a) ↔ Lowest ws a
 unfolding freeNumber addresses
@@ -145,7 +138,7 @@ lowest-at ws a = (
   (λ e.
       ⊎-elim (λ q. let y : 9 ≡ 0 = ap freeNumber (sym (full-at ws q) ∙ e) in absurd (omega arith))
       (λ h.
-      let q : lowestFrom addresses 0 ws ≡ a = let k = sym (at-below ws h) ∙ e in cc in
+      let q : lowestFree ws ≡ a = let k = sym (at-below ws h) ∙ e in cc in
       record {
         below = omega arith;
         free = not-true (used ws a) (subst (λ r. free ws r ≡ true) q (lowest-is ws .here h));

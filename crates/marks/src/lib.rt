@@ -1,9 +1,9 @@
-// The marks of addresses in use: sixteen 64-bit words by value. The mark of address a is digit a % 64 of word a / 64.
+// The marks of addresses in use: sixteen 64-bit words by value. The mark of address a is bit a % 64, from the least significant, of word a / 64.
 use state::State;
 ghost use mathlib.Core.Path.{_≡_};
 ghost use Prim.Native.Nat.{_*_, _≤_};
 ghost use Rattle.state.specs.Sizes.{addresses};
-ghost use Rattle.state.specs.Marks.{used, marked, unmarked, countOf, lowestFrom};
+ghost use Rattle.state.specs.Marks.{used, marked, unmarked, countOf, lowestFree};
 ghost use Rattle.marks.specs.Next.{nextUsed};
 
 // Is the address in use; no address past the last is.
@@ -56,7 +56,7 @@ pub fn count(marks: [u64; State::WORDS]) -> u32
 
 // The smallest address that is not in use, or their number: a word's first zero is the first one of its complement.
 pub fn lowest(marks: [u64; State::WORDS]) -> usize
-    ensures { λ r. ⌜ r ≡ lowestFrom addresses 0 marks ⌝ }
+    ensures { λ r. ⌜ r ≡ lowestFree marks ⌝ }
 {
     let mut q: usize = 0;
     while q < State::WORDS {

@@ -1,49 +1,17 @@
-// The multiset hash: an entry's message and its tag, a hash with one element more, and whether two hashes are equal.
+// The multiset hash: a hash with one element more, and whether two hashes are equal.
 use state::Hash;
 use state::State;
 ghost use mathlib.Core.Path.{_≡_};
-ghost use Prim.Native.Nat.{_+_};
 ghost use Rattle.octets.specs.Places.{xor, same};
-ghost use Rattle.state.specs.Sizes.{width};
-ghost use Rattle.state.specs.Cells.{entry};
-ghost use Rattle.state.specs.Multiset.{message, withTag, sameHash};
-ghost use Rattle.multiset.specs.Tag.{tagOf};
-
-// Where the value and the stamp stand in a message, and the message's size.
-const VALUE: usize = 3;
-
-const STAMP: usize = VALUE + State::VALUE;
-
-const MESSAGE: usize = STAMP + State::STAMP;
-
-// An entry's message: 01, the address, the value, the stamp.
-pub fn message(a: u16, value: [u8; State::VALUE], stamp: u16) -> [u8; MESSAGE]
-    ensures { λ r. ⌜ r ≡ message width (entry a value stamp) ⌝ }
-{
-    let mut m = [0u8; MESSAGE];
-    m[0] = 1;
-    m[1] = (a / 256) as u8;
-    m[2] = (a % 256) as u8;
-    lent::copy(&mut m[VALUE..STAMP], &value);
-    m[STAMP] = (stamp / 256) as u8;
-    m[STAMP + 1] = (stamp % 256) as u8;
-    m
-}
-
-// An entry's tag: the HMAC of its message under the key.
-pub fn tag(key: [u8; State::KEY], a: u16, value: [u8; State::VALUE], stamp: u16) -> [u8; State::KEY]
-    ensures { λ r. ⌜ r ≡ tagOf width key (entry a value stamp) ⌝ }
-{
-    hmac::tag(key, message(a, value, stamp))
-}
+ghost use Rattle.state.specs.Multiset.{withTag, sameHash};
 
 // The exclusive-or of two tags.
-fn xored(s: [u8; State::KEY], t: [u8; State::KEY]) -> [u8; State::KEY]
+fn xored(s: [u8; State::TAG], t: [u8; State::TAG]) -> [u8; State::TAG]
     ensures { λ r. ⌜ r ≡ xor s t ⌝ }
 {
-    let mut x = [0u8; State::KEY];
+    let mut x = [0u8; State::TAG];
     let mut i: usize = 0;
-    while i < State::KEY {
+    while i < State::TAG {
         x[i] = s[i] ^ t[i];
         i += 1;
     }
@@ -51,7 +19,7 @@ fn xored(s: [u8; State::KEY], t: [u8; State::KEY]) -> [u8; State::KEY]
 }
 
 // The hash with one element more, by its tag.
-pub fn with_tag(h: Hash, t: [u8; State::KEY]) -> Hash
+pub fn with_tag(h: Hash, t: [u8; State::TAG]) -> Hash
     ensures { λ r. ⌜ r ≡ withTag h t ⌝ }
 {
     let old = h.tag;
@@ -63,11 +31,11 @@ pub fn with_tag(h: Hash, t: [u8; State::KEY]) -> Hash
 }
 
 // Are two tags equal.
-fn same_tag(s: [u8; State::KEY], t: [u8; State::KEY]) -> bool
+fn same_tag(s: [u8; State::TAG], t: [u8; State::TAG]) -> bool
     ensures { λ r. ⌜ r ≡ same s t ⌝ }
 {
     let mut k: usize = 0;
-    while k < State::KEY {
+    while k < State::TAG {
         if s[k] != t[k] {
             return false;
         }

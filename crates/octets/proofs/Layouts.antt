@@ -86,11 +86,6 @@ join-append (w ∷ ws) (v ∷ vs) us ds l =
     let q : 2 ^ total (ws ++ us) ≡ 2 ^ total ws * 2 ^ total us = ap (λ (k : ℕ). 2 ^ k) (total-append ws us) ∙ pow-add 2 (total ws) (total us) in
     ap₂ (λ (x y : ℕ). v * x + y) q (join-append ws vs us ds (omega arith)) ∙ regroup v (2 ^ total ws) (2 ^ total us) (join ws vs) (join us ds)
 
--- two layouts make one number where their fronts do and their rests do
-pub beside : (ws vs us ds ws′ vs′ us′ ds′ : List ℕ) → length ws ≡ length vs → length us ≡ length ds → total ws′ ≡ total us′
-    → join ws vs ≡ join us ds → join ws′ vs′ ≡ join us′ ds′ → join (ws ++ ws′) (vs ++ vs′) ≡ join (us ++ us′) (ds ++ ds′)
-beside ws vs us ds ws′ vs′ us′ ds′ l k t e g = join-append ws vs ws′ vs′ l ∙ (cc) ∙ sym (join-append us ds us′ ds′ k)
-
 -- ---- ways to show that parts fit
 
 -- a part for each width, as a product: for lists that are written out

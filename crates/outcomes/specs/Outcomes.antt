@@ -40,8 +40,8 @@ use Rattle.numbers.proofs.use_of as NumberOfUse
 use Rattle.numbers.proofs.remove as NumberOfRemove
 use Rattle.numbers.proofs.check as NumberOfCheck
 use Rattle.numbers.proofs.look as NumberOfLook
-use Rattle.multiset.proofs.message as Message
-use Rattle.multiset.proofs.tag as Tag
+use Rattle.entries.proofs.message as Message
+use Rattle.entries.proofs.tag as Tag
 use Rattle.multiset.proofs.with_tag as WithTag
 use Rattle.multiset.proofs.same as Same
 use Rattle.periods.proofs.agrees as Agrees

@@ -19,7 +19,7 @@ pub fn opened(s: State) -> State
     ensures { λ r. ⌜ r ≡ opened s ⌝ }
 {
     let none = Hash {
-        tag: [0u8; State::KEY],
+        tag: [0u8; State::TAG],
         number: 0,
     };
     let mut r = s;

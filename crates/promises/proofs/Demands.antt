@@ -7,7 +7,7 @@ use Rattle.state.specs.Check.{checkRows}
 use Rattle.state.proofs.Multiset.{hash-none, hash-last, sameHash-true, equal-sameHash, same-counts}
 use Rattle.state.proofs.Messages.{message-injective}
 use Rattle.state.proofs.Guards.{accepts-tells, equal-accepts, fault-marked, marks-fault}
-use Rattle.multiset.specs.Tag.{tag}
+use Rattle.entries.specs.Tag.{tag}
 use Rattle.filter.proofs.Trips.{one-to-one}
 use Rattle.going.proofs.Compares.{compared}
 use Rattle.run.proofs.Demand3.{demand3}
@@ -26,7 +26,7 @@ second-demand = record {
   same-hash = λ key. same-counts (tag key);
   one-entry = λ d e f g. message-injective width d e f g;
   check-accepts = λ s m g.
-      let z = exactly 0 (checkRows width s m) .0 g in
+      let z = exactly 0 (checkRows width s m) .1 g in
       ((λ v. accepts-tells width tag s m z v), (λ h. equal-accepts width tag s m z (h .0) (h .1)));
   fault-marked = λ s e. ((λ h. fault-marked tag s e h), (λ h. marks-fault tag s e h));
   check-exactly = check-exact width tag;

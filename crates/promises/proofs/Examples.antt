@@ -12,7 +12,7 @@ use Rattle.octets.specs.Layout.{total, split, number, bytes}
 use Rattle.refusal.specs.Refusal.{first}
 use Rattle.refusal.proofs.Exact.{exactly}
 use Rattle.state.specs.Sizes.{width, addresses, valueSize, cellSize, storeSize, ceiling}
-use Rattle.state.specs.Marks.{used, countBelow, countOf, lowestFrom}
+use Rattle.state.specs.Marks.{used, countBelow, countOf, firstFrom, lowestFree}
 use Rattle.state.specs.Cells.{entry, writeCell, writeEntry}
 use Rattle.state.specs.Multiset.{message}
 use Rattle.state.specs.Step.{Seen, Step, next, withMarks, putEntry}
@@ -20,7 +20,7 @@ use Rattle.state.specs.Moves.{addRows, useRows, removeRows, lookRows, added, ca
 use Rattle.state.specs.declared.State.{State}
 use Rattle.state.specs.declared.Free.the-variants.{At, Full}
 use Rattle.state.proofs.Ready.{call-done, add-ready}
-use Rattle.multiset.specs.Tag.{tag, tagOf}
+use Rattle.entries.specs.Tag.{tag, tagOf}
 use Rattle.promises.proofs.Filters.{example-6, example-7, example-8, example-9, example-10, example-11}
 use Rattle.state.proofs.Multiset.{pairs}
 use Rattle.hmac.proofs.Answers.{hmac-length}
@@ -32,7 +32,7 @@ unfolding addOf
 add-done s m a v e = ap (λ (x : Step). x .seen) (call-done (addRows width s m a v) s m [] (added width tag s m a v) e)
 
 add-first : (s : State) (m : List ℕ) (a : ℕ) (v : List ℕ) → add s m a v .number ≡ 0 → first (addRows width s m a v) ≡ 0
-add-first s m a v e = exactly 0 (addRows width s m a v) .0 (numbers .add s m a v .number 0 .0 e)
+add-first s m a v e = exactly 0 (addRows width s m a v) .1 (numbers .add s m a v .number 0 .0 e)
 
 add-stores : (s : State) (m : List ℕ) (a : ℕ) (v : List ℕ) → add s m a v .number ≡ 0 → add s m a v .store ≡ writeCell width m a v (s .clock + 1)
 unfolding added writeEntry next
@@ -56,11 +56,11 @@ unfolding message bytes split total
 five = refl
 
 first-word : (countOf (full ∷ replicate 15 0) ≡ 64) × (lowestOf (full ∷ replicate 15 0) ≡ At 64)
-unfolding countOf countBelow used lowestOf lowestFrom addresses
+unfolding countOf countBelow used lowestOf lowestFree firstFrom addresses
 first-word = (refl, refl)
 
 all-words : (countOf (replicate 16 full) ≡ 1024) × (lowestOf (replicate 16 full) ≡ Full) × (freeNumber Full ≡ 9)
-unfolding countOf countBelow used lowestOf lowestFrom addresses freeNumber
+unfolding countOf countBelow used lowestOf lowestFree firstFrom addresses freeNumber
 all-words = (refl, refl, refl)
 
 module _ (s : State) (m v : List ℕ) (z : Sized s m v) where
@@ -83,7 +83,7 @@ module _ (s : State) (m v : List ℕ) (z : Sized s m v) where
         (ap (λ (x : Seen). x .number) d, ap (λ (x : Seen). x .state .clock) d ∙ omega (arith, e))
 
     no-tick : s .clock ≡ 65535 → add s m a v .number ≡ 6
-    no-tick e = numbers .add s m a v .number 6 .1 (exactly 6 (addRows width s m a v) .1 (rows-at 65535 e))
+    no-tick e = numbers .add s m a v .number 6 .1 (exactly 6 (addRows width s m a v) .0 (rows-at 65535 e))
 
 pub examples : Examples
 unfolding tagOf

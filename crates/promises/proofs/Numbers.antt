@@ -8,12 +8,12 @@ use mathlib.Core.Option.{some, Option·none-ne-some, Option·some-injective}
 use Prim.Native.Nat.{ℕ, zero, suc}
 use native.Mathlib.Omega.{arith}
 use Rattle.refusal.specs.Refusal.{Row, first, done, Given, fills}
-use Rattle.refusal.proofs.Exact.{exactly}
+use Rattle.refusal.proofs.Exact.{exactly, fills-exactly}
 use Rattle.refusal.proofs.Passed.{done-other}
 use lib.Dec.{eqb}
 use lib.ListN.{length}
 use Rattle.state.specs.Sizes.{width, addresses, valueSize}
-use Rattle.state.specs.Marks.{lowestFrom}
+use Rattle.state.specs.Marks.{lowestFree}
 use Rattle.state.specs.Start.{none, startRows, startOf}
 use Rattle.state.specs.Step.{seen, Step}
 use Rattle.state.specs.Moves.{call, added, loaded, stored, removed, addOf, loadOf, storeOf, removeOf, lookOf, lowestOf, freeNumber, freeAddress, addRows, useRows, removeRows, lookRows, lowestRows}
@@ -25,15 +25,15 @@ use Rattle.state.specs.declared.Free.the-variants.{At, Full}
 use Rattle.state.proofs.Ready.{look-ready, look-done, look-refused}
 use Rattle.state.proofs.Cells.{value-length}
 use Rattle.marks.proofs.Sets.{count-is, lowest-at, lowest-full}
-use Rattle.multiset.specs.Tag.{tag}
+use Rattle.entries.specs.Tag.{tag}
 use Rattle.sha256.specs.Sha256.{digestOf}
 use Rattle.hmac.specs.Hmac.{macOf}
 use Rattle.filter.proofs.Numbers.{numbers as filter-numbers}
-use Rattle.promises.specs.Numbers.{Exactly, FillsExactly, Numbers}
+use Rattle.promises.specs.Numbers.{Exactly, Numbers}
 
 -- a number that is the first of some rows
 rows-exactly : (rows : List Row) (k n : ℕ) → k ≡ first rows → (k ≡ n) ↔ Given n rows
-rows-exactly rows k n e = ((λ h. exactly n rows .1 (sym e ∙ h)), (λ g. e ∙ exactly n rows .0 g))
+rows-exactly rows k n e = rw e (exactly n rows)
 
 call-number : (n : ℕ) (s : State) (m o : List ℕ) (x : Step) → x .seen .number ≡ 0
     → done n x (record { seen = seen n Nothing s m o; events = [] }) .seen .number ≡ n
@@ -70,20 +70,17 @@ said : (b : Bool) (x y : Step) → verdictNumber (x .seen .verdict) ≡ some 0 �
 said true x y e h = e
 said false x y e h = h
 
-fills-exactly : (rows : List Row) (new old : List ℕ) → FillsExactly rows (fills rows new old) old
-fills-exactly rows new old = record { number = λ n. rows-exactly rows _ n refl; unchanged = λ h. done-other (first rows) new old h }
-
 look-size : (m : List ℕ) (a : ℕ) → Given 0 (lookRows width m a) → length (lookOf width m a) ≡ 28
 unfolding valueSize
 look-size m a g =
-    let z = exactly 0 (lookRows width m a) .0 g in
+    let z = exactly 0 (lookRows width m a) .1 g in
     let r = look-ready width m a z in
     ap length (look-done width m a z .0) ∙ value-length width m a (r .1) (r .0)
 
 look-exactly : (m : List ℕ) (a : ℕ) → (lookOf width m a ≡ []) ↔ (Given 0 (lookRows width m a) → ⊥)
 look-exactly m a = (
   (λ e g. let n = look-size m a g in let l : length (lookOf width m a) ≡ 0 = ap length e in omega arith),
-  (λ h. look-refused width m a (λ z. h (exactly 0 (lookRows width m a) .1 z)) .0),
+  (λ h. look-refused width m a (λ z. h (exactly 0 (lookRows width m a) .0 z)) .0),
 )
 
 -- an address where the row does not hold, and none where it does
@@ -120,7 +117,7 @@ numbers = record {
   look-size = look-size;
   look = look-exactly;
   count = count-is;
-  lowest-free = λ n ws. rows-exactly (lowestRows ws) _ n (free-number (eqb (lowestFrom addresses 0 ws) addresses) (lowestFrom addresses 0 ws));
+  lowest-free = λ n ws. rows-exactly (lowestRows ws) _ n (free-number (eqb (lowestFree ws) addresses) (lowestFree ws));
   lowest-at = λ a ws. (λ e. lowest-at ws a .0 (address-tells (lowestOf ws) a e), λ l. ap freeAddress (lowest-at ws a .1 l));
   lowest-full = λ ws. (λ e. lowest-full ws .0 (number-tells (lowestOf ws) e), λ u. ap freeNumber (lowest-full ws .1 u));
   digest = λ m out. fills-exactly _ _ out;

@@ -17,7 +17,7 @@ use Rattle.state.specs.Check.{checkRows, takeBelow, checkOf}
 use Rattle.state.specs.declared.State.{State}
 use Rattle.state.specs.declared.Hash.{Hash}
 use Rattle.state.specs.declared.Verdict.the-variants.{Accept}
-use Rattle.multiset.specs.Tag.{tag}
+use Rattle.entries.specs.Tag.{tag}
 use Rattle.filter.specs.Promises.{OneToOne}
 use Rattle.going.specs.Going.{Compared}
 use Rattle.run.specs.Demand3.{Demand3}

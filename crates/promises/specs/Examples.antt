@@ -14,7 +14,7 @@ use Rattle.state.specs.Step.{Seen}
 use Rattle.state.specs.Moves.{addOf, loadOf, storeOf, removeOf, lookOf, lowestOf, freeNumber}
 use Rattle.state.specs.declared.State.{State}
 use Rattle.state.specs.declared.Free.the-variants.{At, Full}
-use Rattle.multiset.specs.Tag.{tag}
+use Rattle.entries.specs.Tag.{tag}
 use Rattle.promises.specs.Filters.{Example6, Example7, Example8, Example9, Example10, Example11}
 
 abbrev pub add : State → List ℕ → ℕ → List ℕ → Seen

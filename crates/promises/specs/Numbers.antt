@@ -6,7 +6,7 @@ use mathlib.Core.Logic.{_↔_}
 use mathlib.Core.Option.{some}
 use Prim.Native.Nat.{ℕ}
 use lib.ListN.{length}
-use Rattle.refusal.specs.Refusal.{Row, Given, Filled}
+use Rattle.refusal.specs.Refusal.{Row, Given, FillsExactly}
 use Rattle.state.specs.Sizes.{width}
 use Rattle.state.specs.Marks.{countOf}
 use Rattle.state.specs.Start.{none, startRows, startOf}
@@ -15,7 +15,7 @@ use Rattle.state.specs.Moves.{addRows, useRows, removeRows, lookRows, lowestRow
 use Rattle.state.specs.Check.{verdictNumber, checkRows, checkOf}
 use Rattle.state.specs.declared.State.{State}
 use Rattle.state.specs.declared.Verdict.the-variants.{Nothing}
-use Rattle.multiset.specs.Tag.{tag}
+use Rattle.entries.specs.Tag.{tag}
 use Rattle.marks.specs.Sets.{Counted, Lowest, AllUsed}
 use Rattle.sha256.specs.Sha256.{digestRows, digestOf}
 use Rattle.hmac.specs.Hmac.{macRows, macOf}
@@ -25,11 +25,6 @@ use Rattle.filter.specs.Promises.{Numbers as FilterNumbers}
 pub record Exactly (rows : List Row) (given : Seen) (s : State) (m o : List ℕ) : Type 0 where
   pub number : (n : ℕ) → (given .number ≡ n) ↔ Given n rows
   pub unchanged : (given .number ≡ 0 → ⊥) → given ≡ seen (given .number) Nothing s m o
-
--- a call that fills a lent buffer
-pub record FillsExactly (rows : List Row) (given : Filled) (old : List ℕ) : Type 0 where
-  pub number : (n : ℕ) → (given .number ≡ n) ↔ Given n rows
-  pub unchanged : (given .number ≡ 0 → ⊥) → given .out ≡ old
 
 pub record Numbers : Type 0 where
   pub start : (n : ℕ) (k : List ℕ) → (startOf k .number ≡ n) ↔ Given n (startRows k)

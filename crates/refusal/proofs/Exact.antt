@@ -2,9 +2,10 @@
 use mathlib.Core.Path.{_≡_, refl, sym, ap, _∙_}
 use mathlib.Core.Bool.{Bool, true, false, cond}
 use mathlib.Core.List.{List, [], _∷_, _++_}
-use mathlib.Core.Logic.{inl, inr}
+use mathlib.Core.Logic.{_↔_, inl, inr}
 use Prim.Native.Nat.{ℕ}
-use Rattle.refusal.specs.Refusal.{Row, first, NoneHolds, Given}
+use Rattle.refusal.specs.Refusal.{Row, first, NoneHolds, Given, fills, FillsExactly}
+use Rattle.refusal.proofs.Passed.{done-other}
 
 -- where no row holds the number is 0
 pub none-first : (rows : List Row) → NoneHolds rows → first rows ≡ 0
@@ -38,5 +39,8 @@ first-given [] = inl (refl, tt)
 first-given (r ∷ rs) = split-first r rs (first-given rs) (r .holds) refl
 
 -- both directions: a number is given exactly when its row is the first that holds
-pub exactly : (n : ℕ) (rows : List Row) → (Given n rows → first rows ≡ n) × (first rows ≡ n → Given n rows)
-exactly n rows = (given-first n rows, λ e. rw (← e) (first-given rows))
+pub exactly : (n : ℕ) (rows : List Row) → (first rows ≡ n) ↔ Given n rows
+exactly n rows = ((λ e. rw (← e) (first-given rows)), given-first n rows)
+
+pub fills-exactly : (rows : List Row) (new old : List ℕ) → FillsExactly rows (fills rows new old) old
+fills-exactly rows new old = record { number = λ n. exactly n rows; unchanged = λ h. done-other (first rows) new old h }

@@ -3,7 +3,7 @@
 use mathlib.Core.Path.{_≡_}
 use mathlib.Core.Bool.{Bool, true, false, cond}
 use mathlib.Core.List.{List, [], _∷_, _++_}
-use mathlib.Core.Logic.{_⊎_}
+use mathlib.Core.Logic.{_⊎_, _↔_}
 use Prim.Native.Nat.{ℕ, zero, suc}
 
 -- a row of the table: whether its condition holds, and its number
@@ -55,3 +55,8 @@ filled n o = record { number = n; out = o }
 -- new bytes where no row holds; a refusal leaves the old ones
 abbrev pub fills : List Row → List ℕ → List ℕ → Filled
 fills rows new old = filled (first rows) (done (first rows) new old)
+
+-- such a call with these rows: each number exactly where its row is the first that holds; refused, the buffer is as it was
+pub record FillsExactly (rows : List Row) (given : Filled) (old : List ℕ) : Type 0 where
+  pub number : (n : ℕ) → (given .number ≡ n) ↔ Given n rows
+  pub unchanged : (given .number ≡ 0 → ⊥) → given .out ≡ old

@@ -13,7 +13,7 @@ use Rattle.state.specs.Sizes.{addresses}
 use Rattle.state.specs.Cells.{Entry}
 use Rattle.state.specs.Multiset.{hash}
 use Rattle.state.specs.Start.{fresh}
-use Rattle.state.specs.Step.{Event, took, put, answered, set, dropped, accepted, withMarks, takeEntry, putEntry}
+use Rattle.state.specs.Step.{Event, took, put, accepted, withMarks, takeEntry, putEntry}
 use Rattle.state.specs.Check.{checkRows, takes, takeBelow}
 use Rattle.state.specs.declared.State.{State}
 use Rattle.state.proofs.Ready.{check-ready}
@@ -29,9 +29,6 @@ use Rattle.run.proofs.Told.{neither, Like, moved, taken-told, made, mad
 abbrev isTake : Event → Bool
 isTake (took e) = true
 isTake (put e) = false
-isTake (answered a v) = false
-isTake (set a v) = false
-isTake (dropped a) = false
 isTake accepted = false
 
 -- ---- stamps that are not ahead
@@ -60,9 +57,6 @@ module _ (tag : List ℕ → Entry → List ℕ) where
     λ h. let k : Ahead c d → ⊥ = h .1 d refl in rw (h .0, le-ltb (s .clock) (d .stamp) (omega arith)),
   )
   fault-moved s c t (put d) n = no-take s c (put d) refl
-  fault-moved s c t (answered a v) n = no-take s c (answered a v) refl
-  fault-moved s c t (set a v) n = no-take s c (set a v) refl
-  fault-moved s c t (dropped a) n = no-take s c (dropped a) refl
   fault-moved s c t accepted n = absurd (n refl)
 
   module _ (key : List ℕ) where

@@ -8,7 +8,7 @@ use mathlib.Core.Logic.{_⊎_, inl, inr, ⊎-elim}
 use Prim.Native.Nat.{ℕ}
 use lib.Dec.{eqb}
 use Rattle.state.specs.Cells.{Entry}
-use Rattle.state.specs.Step.{Event, took, put, answered, set, dropped, accepted}
+use Rattle.state.specs.Step.{Event, took, put, accepted}
 use Rattle.run.specs.Demand3.{putIn, takenIn, Since}
 use Rattle.run.proofs.Lists.{by-last, place-in, last-place, no-place}
 
@@ -32,9 +32,6 @@ noLog = record { puts = []; takes = []; held = λ a. none }
 unfoldable pub noted : Log → Event → Log
 noted l (took e) = takeL l e
 noted l (put e) = putL l e
-noted l (answered a v) = l
-noted l (set a v) = l
-noted l (dropped a) = l
 noted l accepted = noLog
 
 abbrev pub follow : Log → List Event → Log
@@ -53,9 +50,6 @@ unfolding noted putL takeL putIn
 unbroken-puts l [] u = sym (append-nil (l .puts))
 unbroken-puts l (took e ∷ es) u = unbroken-puts (takeL l e) es (rest-unbroken (took e) es u)
 unbroken-puts l (put e ∷ es) u = unbroken-puts (putL l e) es (rest-unbroken (put e) es u) ∙ append-assoc (l .puts) (e ∷ []) (putIn es)
-unbroken-puts l (answered a v ∷ es) u = unbroken-puts l es (rest-unbroken (answered a v) es u)
-unbroken-puts l (set a v ∷ es) u = unbroken-puts l es (rest-unbroken (set a v) es u)
-unbroken-puts l (dropped a ∷ es) u = unbroken-puts l es (rest-unbroken (dropped a) es u)
 unbroken-puts l (accepted ∷ es) u = absurd (u [] es refl)
 
 unbroken-takes : (l : Log) (es : List Event) → Unbroken es → follow l es .takes ≡ l .takes ++ takenIn es
@@ -63,9 +57,6 @@ unfolding noted putL takeL takenIn
 unbroken-takes l [] u = sym (append-nil (l .takes))
 unbroken-takes l (took e ∷ es) u = unbroken-takes (takeL l e) es (rest-unbroken (took e) es u) ∙ append-assoc (l .takes) (e ∷ []) (takenIn es)
 unbroken-takes l (put e ∷ es) u = unbroken-takes (putL l e) es (rest-unbroken (put e) es u)
-unbroken-takes l (answered a v ∷ es) u = unbroken-takes l es (rest-unbroken (answered a v) es u)
-unbroken-takes l (set a v ∷ es) u = unbroken-takes l es (rest-unbroken (set a v) es u)
-unbroken-takes l (dropped a ∷ es) u = unbroken-takes l es (rest-unbroken (dropped a) es u)
 unbroken-takes l (accepted ∷ es) u = absurd (u [] es refl)
 
 module _ (all period : List Event) (s : Since all period) where
@@ -89,9 +80,6 @@ module _ (all period : List Event) (s : Since all period) where
 abbrev pub isAccepted : Event → Bool
 isAccepted (took e) = false
 isAccepted (put e) = false
-isAccepted (answered a v) = false
-isAccepted (set a v) = false
-isAccepted (dropped a) = false
 isAccepted accepted = true
 
 module _ (all : List Event) where
@@ -111,9 +99,6 @@ module _ (all : List Event) where
   more : (e : Event) → (period : List Event) × Since all period → (period : List Event) × Since (all ++ (e ∷ [])) period
   more (took e) h = grows (took e) refl h
   more (put e) h = grows (put e) refl h
-  more (answered a v) h = grows (answered a v) refl h
-  more (set a v) h = grows (set a v) refl h
-  more (dropped a) h = grows (dropped a) refl h
   more accepted h =
       ([], record { past = all ++ (accepted ∷ []); place = sym (append-nil (all ++ (accepted ∷ []))); begins = inr (all, refl); unbroken = λ p q. no-place p accepted q })
 

@@ -15,7 +15,7 @@ use Rattle.octets.proofs.Layouts.{fit-bytes, number-below, pow-bytes}
 use Rattle.state.specs.Sizes.{addresses, valueSize, cellSize, storeSize, ceiling}
 use Rattle.state.specs.Cells.{Entry, valueAt, stampAt, entryAt}
 use Rattle.state.specs.Multiset.{message, Fits}
-use Rattle.state.specs.Step.{Event, took, put, answered, set, dropped, accepted, Step, next, takeEntry}
+use Rattle.state.specs.Step.{Event, took, put, accepted, Step, next, takeEntry}
 use Rattle.state.specs.Moves.{added, loaded, stored, removed}
 use Rattle.state.specs.Check.{opening, agrees, takes, puts, takeBelow, acceptance, rejection}
 use Rattle.state.specs.declared.State.{State}
@@ -43,9 +43,6 @@ pub record InCell (w : ℕ) (e : Entry) : Type 0 where
 abbrev pub Right : ℕ → (Entry → Type 0) → Event → Type 0
 Right w T (took e) = T e
 Right w T (put e) = InCell w e
-Right w T (answered a v) = Unit {0}
-Right w T (set a v) = Unit {0}
-Right w T (dropped a) = Unit {0}
 Right w T accepted = Unit {0}
 
 module _ (w : ℕ) (one : 1 ≤ w) (tag : List ℕ → Entry → List ℕ) (T : Entry → Type 0) (s : State) (m : List ℕ) (bound : s .clock ≤ ceiling w)
@@ -58,11 +55,10 @@ module _ (w : ℕ) (one : 1 ≤ w) (tag : List ℕ → Entry → List ℕ) (T : 
   unfolding next
   next-fits a v h k n = record { address = h; value = k; stamp = omega arith }
 
-  exchanged : (a : ℕ) (v : List ℕ) (x : Event) → R x → Ready w s m a true → length v ≡ valueSize → s .clock ≢ ceiling w
-      → Each R (took (entryAt w m a) ∷ put (next (takeEntry tag s (entryAt w m a)) a v) ∷ x ∷ [])
+  exchanged : (a : ℕ) (v : List ℕ) → Ready w s m a true → length v ≡ valueSize → s .clock ≢ ceiling w
+      → Each R (took (entryAt w m a) ∷ put (next (takeEntry tag s (entryAt w m a)) a v) ∷ [])
   unfolding takeEntry next
-  exchanged a v x h p k n =
-      each-more R _ _ (taken a (p .below) (p .size)) (each-more R _ _ (next-fits a v (p .below) k n) (each-more R x [] h (each-none R)))
+  exchanged a v p k n = each-more R _ _ (taken a (p .below) (p .size)) (each-more R _ _ (next-fits a v (p .below) k n) (each-none R))
 
   opening-fits : length m ≡ storeSize w → (a : ℕ) → a < addresses → InCell w (opening w m a)
   unfolding opening
@@ -75,14 +71,14 @@ module _ (w : ℕ) (one : 1 ≤ w) (tag : List ℕ → Entry → List ℕ) (T : 
       go : (c : Call) → first (rowsOf w s m c) ≡ 0 → Each R (whenDone w tag s m c .events)
       go (add a v) e =
           let p = add-ready w s m a v e in
-          each-more R _ _ (next-fits a v (p .0 .below) (p .1 .size) (p .1 .time)) (each-more R _ _ tt (each-none R))
+          each-more R _ _ (next-fits a v (p .0 .below) (p .1 .size) (p .1 .time)) (each-none R)
       go (load a o) e =
           let p = use-ready w s m a o e in
-          exchanged a (valueAt w m a) (answered a (valueAt w m a)) tt (p .0) (value-length w m a (p .0 .below) (p .0 .size)) (p .1 .time)
-      go (store a v) e = let p = use-ready w s m a v e in exchanged a v (set a v) tt (p .0) (p .1 .size) (p .1 .time)
+          exchanged a (valueAt w m a) (p .0) (value-length w m a (p .0 .below) (p .0 .size)) (p .1 .time)
+      go (store a v) e = let p = use-ready w s m a v e in exchanged a v (p .0) (p .1 .size) (p .1 .time)
       go (remove a) e =
           let p = remove-ready w s m a e in
-          each-more R _ _ (taken a (p .below) (p .size)) (each-more R _ _ tt (each-none R))
+          each-more R _ _ (taken a (p .below) (p .size)) (each-none R)
       go check e =
           let size = check-ready w s m e .1 in
           let ts = each-used R (λ a. took (entryAt w m a)) (s .marks) addresses (λ a h. taken a h size) in

@@ -56,14 +56,14 @@ module _ (w : ℕ) (tag : List ℕ → Entry → List ℕ) (s : State) (m : List
       none : (es : List Event) → Each Plain es → es ≡ p ++ (accepted ∷ q) → ⊥
       none es f e = none-accepted es f p q e
 
-      two : (x y : Event) → Plain x → Plain y → Each Plain (x ∷ y ∷ [])
-      two x y h k = each-more Plain x (y ∷ []) h (each-more Plain y [] k (each-none Plain))
+      one : (x : Event) → Plain x → Each Plain (x ∷ [])
+      one x h = each-more Plain x [] h (each-none Plain)
 
       go : (c : Call) → whenDone w tag s m c .events ≡ p ++ (accepted ∷ q) → (c ≡ check) × (whenDone w tag s m c .seen .verdict ≡ Accept) × (p ≡ takes w s m)
-      go (add a v) h = absurd (none _ (two _ _ refl refl) h)
-      go (load a o) h = absurd (none _ (each-more Plain _ _ refl (two _ _ refl refl)) h)
-      go (store a v) h = absurd (none _ (each-more Plain _ _ refl (two _ _ refl refl)) h)
-      go (remove a) h = absurd (none _ (two _ _ refl refl) h)
+      go (add a v) h = absurd (none _ (one _ refl) h)
+      go (load a o) h = absurd (none _ (each-more Plain _ _ refl (one _ refl)) h)
+      go (store a v) h = absurd (none _ (each-more Plain _ _ refl (one _ refl)) h)
+      go (remove a) h = absurd (none _ (one _ refl) h)
       go check h =
           by-cond (λ (r : Step). r .events ≡ p ++ (accepted ∷ q) → (check ≡ check) × (r .seen .verdict ≡ Accept) × (p ≡ takes w s m)) (agrees (takeBelow w tag s m addresses))
           (λ k h. (refl, refl, at-end (place-in (takes w s m) (accepted ∷ puts w s m) p accepted q h)))

@@ -10,7 +10,7 @@ use Rattle.state.specs.Marks.{used}
 use Rattle.state.specs.Cells.{Entry, entryAt}
 use Rattle.state.specs.Multiset.{emptyHash}
 use Rattle.state.specs.Start.{fresh, none}
-use Rattle.state.specs.Step.{Event, took, put, answered, set, dropped, accepted, Step, withMarks, shut, takeEntry, putEntry}
+use Rattle.state.specs.Step.{Event, took, put, accepted, Step, withMarks, shut, takeEntry, putEntry}
 use Rattle.state.specs.Moves.{added, loaded, stored, removed}
 use Rattle.state.specs.Check.{opened, opening, agrees, takes, puts, takeBelow, openBelow, acceptance, rejection}
 use Rattle.state.specs.declared.State.{State}
@@ -46,9 +46,6 @@ module _ (tag : List ℕ → Entry → List ℕ) where
   unfoldable pub moved : State → Event → State
   moved s (took e) = takeEntry tag s e
   moved s (put e) = putEntry tag s e
-  moved s (answered a v) = s
-  moved s (set a v) = s
-  moved s (dropped a) = s
   moved s accepted = record { key = s .key; put = emptyHash; take = emptyHash; clock = 1; fault = false; closed = s .closed; marks = s .marks }
 
   abbrev pub told : State → List Event → State
@@ -61,9 +58,6 @@ module _ (tag : List ℕ → Entry → List ℕ) where
       go : (v : Event) → moved (withMarks t ws) v ≡ withMarks (moved t v) ws
       go (took e) = refl
       go (put e) = refl
-      go (answered a u) = refl
-      go (set a u) = refl
-      go (dropped a) = refl
       go accepted = refl
 
   like-told : (x t : State) (es : List Event) → Like x t → Like (told x es) (told t es)
@@ -81,9 +75,6 @@ module _ (tag : List ℕ → Entry → List ℕ) where
     unfolding moved tick noted noLog takeEntry putEntry
     follows-moved s c l (took e) h = record { keyed = h .keyed; clock = h .clock; hashed = take-hashed tag s l e (h .hashed) }
     follows-moved s c l (put e) h = record { keyed = h .keyed; clock = refl; hashed = put-hashed tag s l e (h .hashed) }
-    follows-moved s c l (answered a v) h = h
-    follows-moved s c l (set a v) h = h
-    follows-moved s c l (dropped a) h = h
     follows-moved s c l accepted h = record { keyed = h .keyed; clock = refl; hashed = record { put = sym (hash-none (tag (s .key))); take = sym (hash-none (tag (s .key))) } }
 
     pub follows : (s : State) (c : ℕ) (l : Log) (es : List Event) → Follows key s c l → Follows key (told s es) (foldl tick c es) (follow l es)

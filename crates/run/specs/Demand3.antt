@@ -23,7 +23,7 @@ use Rattle.state.specs.Cells.{Entry, entryAt}
 use Rattle.state.specs.Multiset.{hash}
 use Rattle.state.specs.Counts.{times}
 use Rattle.state.specs.Start.{startOf}
-use Rattle.state.specs.Step.{Event, took, put, answered, set, dropped, accepted, Step}
+use Rattle.state.specs.Step.{Event, took, put, accepted, Step}
 use Rattle.state.specs.Check.{takes}
 use Rattle.state.specs.declared.State.{State}
 use Rattle.state.specs.declared.Verdict.the-variants.{Accept}
@@ -46,18 +46,12 @@ unfoldable pub putIn : List Event → List Entry
 putIn [] = []
 putIn (put e ∷ es) = e ∷ putIn es
 putIn (took e ∷ es) = putIn es
-putIn (answered a v ∷ es) = putIn es
-putIn (set a v ∷ es) = putIn es
-putIn (dropped a ∷ es) = putIn es
 putIn (accepted ∷ es) = putIn es
 
 unfoldable pub takenIn : List Event → List Entry
 takenIn [] = []
 takenIn (put e ∷ es) = takenIn es
 takenIn (took e ∷ es) = e ∷ takenIn es
-takenIn (answered a v ∷ es) = takenIn es
-takenIn (set a v ∷ es) = takenIn es
-takenIn (dropped a ∷ es) = takenIn es
 takenIn (accepted ∷ es) = takenIn es
 
 -- of all that was done, `period` is what was done since the last accepted check, or since the start: what stands before it is nothing or ends with an

@@ -16,7 +16,7 @@ use mathlib.Core.Logic.{_↔_}
 use Prim.Native.Nat.{ℕ, _<_}
 use Rattle.state.specs.Cells.{Entry}
 use Rattle.state.specs.Multiset.{hash}
-use Rattle.state.specs.Step.{Event, took, put, answered, set, dropped, accepted}
+use Rattle.state.specs.Step.{Event, took, put, accepted}
 use Rattle.state.specs.Check.{takes}
 use Rattle.state.specs.declared.State.{State}
 use Rattle.run.specs.Calls.{check, Lent, lent}
@@ -26,9 +26,6 @@ use Rattle.run.specs.Demand3.{putIn, takenIn, Since, stateAfter, eventsO
 unfoldable pub tick : ℕ → Event → ℕ
 tick c (took e) = c
 tick c (put e) = e .stamp
-tick c (answered a v) = c
-tick c (set a v) = c
-tick c (dropped a) = c
 tick c accepted = 1
 
 abbrev pub clockAfter : List Event → ℕ

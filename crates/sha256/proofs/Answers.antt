@@ -21,13 +21,13 @@ finish-short m x y l = rw (le-leb (length m) 8192 l)
 pub sha256-calls : (m h s d : List ℕ) → length m ≤ 8192 → h ≡ H0 → s ≡ cond (leb (length m) 8192) (finished h 0 m) h → d ≡ hashBytes s → d ≡ sha256 m
 sha256-calls m h s d l eh es ed = ed ∙ ap hashBytes (es ∙ finish-short m _ _ l ∙ ap (λ (k : List ℕ). finished k 0 m) eh) ∙ sym (sha256-finished m)
 
--- ---- a call with one row, which fills out
+-- ---- a call with one row, which copies what it made to out
 module _ (n : ℕ) (b : Bool) (new old : List ℕ) where
   pub fills-refused : b ≡ true → filled (suc n) old ≡ fills (when (suc n) b ∷ []) new old
   fills-refused e = rw e
 
-  pub fills-done : b ≡ false → filled 0 new ≡ fills (when (suc n) b ∷ []) new old
-  fills-done e = rw e
+  pub fills-done : (d out : List ℕ) → b ≡ false → length old ≡ length new → d ≡ new → out ≡ copied old d → filled 0 out ≡ fills (when (suc n) b ∷ []) new old
+  fills-done d out e l f c = ap (filled 0) (c ∙ copied-all old d (l ∙ sym (ap length f)) ∙ f) ∙ rw e
 
 module _ (out : List ℕ) where
   pub not32-holds : (length out ≡ 32 → ⊥) → not32 out ≡ true
@@ -55,5 +55,4 @@ module _ (m out : List ℕ) where
   unfolding digestOf
   digest-done d new l o e c =
       let b : outside ≡ false = rw (le-ltb 8192 (length m) l, not32-fails out o) in
-      let n : length out ≡ length d = o ∙ sym (ap length e ∙ sha256-length m) in
-      ap (filled 0) (c ∙ copied-all out d n ∙ e) ∙ fills-done 9 _ (sha256 m) out b
+      fills-done 9 _ (sha256 m) out d new b (o ∙ sym (sha256-length m)) e c

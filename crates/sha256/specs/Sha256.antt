@@ -48,7 +48,7 @@ hashBytes (w ∷ ws) = bytes 4 w ++ hashBytes ws
 unfoldable pub sha256 : List ℕ → List ℕ
 sha256 m = hashBytes (absorbed H0 (padded (length m) m))
 
--- the hash after the rest of a message whose first blocks, as many as before, gave h
+-- the hash after the rest of a message whose first `before` blocks gave h
 unfoldable pub finished : List ℕ → ℕ → List ℕ → List ℕ
 finished h before rest = absorbed h (padded (64 * before + length rest) rest)
 

@@ -16,8 +16,8 @@ fn word_of(a: u8, b: u8, c: u8, d: u8) -> u32
     (a as u32) * 16777216 + (b as u32) * 65536 + (c as u32) * 256 + (d as u32)
 }
 
-// The byte i of m and the byte with the padding's bit 1; past them 0.
-fn marked(m: &[u8], i: usize) -> u8
+// Byte i of m followed by 0x80; 0 past that.
+fn message_byte(m: &[u8], i: usize) -> u8
     ensures { λ r. ⌜ r ≡ getD (now (m .entry) ++ (0x80 ∷ [])) i 0 ⌝ }
 {
     if i < m.len() {
@@ -44,10 +44,10 @@ fn padded_word(rest: &[u8], n: usize, i: usize) -> u32
     if i > len {
         return 0;
     }
-    let a = marked(rest, i);
-    let b = marked(rest, i + 1);
-    let c = marked(rest, i + 2);
-    let d = marked(rest, i + 3);
+    let a = message_byte(rest, i);
+    let b = message_byte(rest, i + 1);
+    let c = message_byte(rest, i + 2);
+    let d = message_byte(rest, i + 3);
     word_of(a, b, c, d)
 }
 
@@ -91,7 +91,7 @@ pub fn absorb(h: [u32; 8], b: [u8; 64]) -> [u32; 8]
     compress::compressed(h, w)
 }
 
-// The hash after the rest of a message whose first blocks, as many as before, gave h; h itself where the rest has more than 8,192 bytes.
+// The hash after the rest of a message whose first `before` blocks gave h; h itself where the rest has more than 8,192 bytes.
 pub fn finish(h: [u32; 8], before: u16, rest: &[u8]) -> [u32; 8]
     ensures { λ r. ⌜ r ≡ cond (leb (length (now (rest .entry))) 8192) (finished h before (now (rest .entry))) h ⌝ }
 {

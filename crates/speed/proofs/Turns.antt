@@ -9,7 +9,7 @@ use Rattle.state.specs.Step.{Seen}
 use Rattle.state.specs.Moves.{addOf}
 use Rattle.state.specs.Check.{checkOf}
 use Rattle.state.specs.declared.State.{State}
-use Rattle.multiset.specs.Tag.{tag}
+use Rattle.entries.specs.Tag.{tag}
 use Rattle.speed.specs.Checks.{addsOf, checksOf}
 
 module _ (s : State) (m : List ℕ) (r : State) (t : List ℕ) (y : Seen) where

@@ -11,7 +11,7 @@ use Rattle.state.specs.Check.{checkOf}
 use Rattle.state.specs.declared.State.{State}
 use Rattle.state.specs.declared.Verdict.{Verdict}
 use Rattle.state.specs.declared.Verdict.the-variants.{Accept, Reject, Nothing}
-use Rattle.multiset.specs.Tag.{tag}
+use Rattle.entries.specs.Tag.{tag}
 
 -- after a value is added at the addresses below n
 unfoldable pub addsOf : State → List ℕ → List ℕ → ℕ → Seen

@@ -4,7 +4,7 @@ use state::Verdict;
 ghost use mathlib.Core.Path.{_≡_};
 ghost use Rattle.speed.specs.Checks.{addsOf, checksOf, accepts};
 
-// The state after a value is added at the first addresses, as many as cells.
+// The state after a value is added at the first `cells` addresses.
 pub fn added(s: State, store: &mut [u8], value: &[u8], cells: usize) -> State
     ensures { λ r. ⌜ (r ≡ addsOf s (now (store .entry)) (now (value .entry)) cells .state)
         × (now (store .exit) ≡ addsOf s (now (store .entry)) (now (value .entry)) cells .store) ⌝ }
@@ -31,7 +31,7 @@ fn is_accept(v: Verdict) -> bool
     }
 }
 
-// So many checks: does the last one accept?
+// Checks, `times` of them: does the last one accept?
 pub fn checked(s: State, store: &mut [u8], times: usize) -> bool
     ensures { λ r. ⌜ (r ≡ accepts (checksOf s (now (store .entry)) times .verdict))
         × (now (store .exit) ≡ checksOf s (now (store .entry)) times .store) ⌝ }

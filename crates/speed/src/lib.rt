@@ -32,7 +32,7 @@ pub extern "C" fn speed_tag(key: &[u8; 32], message: &[u8; 33], out: &mut [u8; 3
     *out = hmac::tag(*key, *message);
 }
 
-// A start, a value added at the first addresses, as many as cells, and then so many checks: does the last one accept?
+// A start, a value added at the first `cells` addresses, and then `times` checks: does the last one accept?
 #[no_mangle]
 pub extern "C" fn speed_checks(
     key: &[u8; 32],

@@ -26,9 +26,13 @@ stampAt w m a = number (take w (drop (cellSize w * a + valueSize) m))
 unfoldable pub entryAt : ℕ → List ℕ → ℕ → Entry
 entryAt w m a = entry a (valueAt w m a) (stampAt w m a)
 
+-- the bytes of a cell with a value and a stamp
+abbrev pub cellOf : ℕ → List ℕ → ℕ → List ℕ
+cellOf w v t = v ++ bytes w t
+
 -- the store with a value and a stamp written to the cell of an address
 unfoldable pub writeCell : ℕ → List ℕ → ℕ → List ℕ → ℕ → List ℕ
-writeCell w m a v t = take (cellSize w * a) m ++ ((v ++ bytes w t) ++ drop (cellSize w * a + cellSize w) m)
+writeCell w m a v t = take (cellSize w * a) m ++ (cellOf w v t ++ drop (cellSize w * a + cellSize w) m)
 
 unfoldable pub writeEntry : ℕ → List ℕ → Entry → List ℕ
 writeEntry w m e = writeCell w m (e .address) (e .value) (e .stamp)

@@ -1,6 +1,6 @@
 -- 01, The trusted state: its marks. That of address a is bit a % 64 of word a / 64, the lowest bit first.
 -- Assumes nothing.
-use mathlib.Core.Bool.{Bool, cond}
+use mathlib.Core.Bool.{Bool, not, cond}
 use mathlib.Core.List.{List}
 use Prim.Native.Nat.{ℕ, zero, suc, _+_, _-_, _/_, _%_, _^_}
 use lib.Bits.{bitAnd, bitOr}
@@ -27,7 +27,11 @@ countBelow (suc n) ws = cond (used ws n) (countBelow n ws + 1) (countBelow n ws)
 unfoldable pub countOf : List ℕ → ℕ
 countOf ws = countBelow addresses ws
 
--- 01, Lowest free: the smallest unmarked address, here among the k from a on; a + k where all are marked
-unfoldable pub lowestFrom : ℕ → ℕ → List ℕ → ℕ
-lowestFrom zero a ws = a
-lowestFrom (suc k) a ws = cond (used ws a) (lowestFrom k (suc a) ws) a
+-- the smallest of the k numbers from a on that p holds of; a + k where it holds of none
+unfoldable pub firstFrom : (ℕ → Bool) → ℕ → ℕ → ℕ
+firstFrom p zero a = a
+firstFrom p (suc k) a = cond (p a) a (firstFrom p k (suc a))
+
+-- 01, Lowest free: the smallest address without a mark, or where the addresses end
+unfoldable pub lowestFree : List ℕ → ℕ
+lowestFree ws = firstFrom (λ a. not (used ws a)) addresses 0

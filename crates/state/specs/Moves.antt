@@ -8,9 +8,9 @@ use lib.Dec.{eqb, ltb}
 use lib.ListN.{length, replicate}
 use Rattle.refusal.specs.Refusal.{Row, when, first, done}
 use Rattle.state.specs.Sizes.{addresses, valueSize, cellSize, storeSize, ceiling}
-use Rattle.state.specs.Marks.{used, marked, unmarked, lowestFrom}
+use Rattle.state.specs.Marks.{used, marked, unmarked, lowestFree}
 use Rattle.state.specs.Cells.{Entry, valueAt, entryAt, writeCell, writeEntry}
-use Rattle.state.specs.Step.{took, put, answered, set, dropped, seen, Step, step, withMarks, next, takeEntry, putEntry}
+use Rattle.state.specs.Step.{took, put, seen, Step, step, withMarks, next, takeEntry, putEntry}
 use Rattle.state.specs.declared.State.{State}
 use Rattle.state.specs.declared.Verdict.the-variants.{Nothing}
 use Rattle.state.specs.declared.Free.{Free}
@@ -61,7 +61,7 @@ module _ (w : ℕ) (tag : List ℕ → Entry → List ℕ) where
   unfoldable pub added : State → List ℕ → ℕ → List ℕ → Step
   added s m a v =
       let e = next s a v in
-      step (seen 0 Nothing (withMarks (putEntry tag s e) (marked (s .marks) a)) (writeEntry w m e) []) (put e ∷ set a v ∷ [])
+      step (seen 0 Nothing (withMarks (putEntry tag s e) (marked (s .marks) a)) (writeEntry w m e) []) (put e ∷ [])
 
   unfoldable pub addOf : State → List ℕ → ℕ → List ℕ → Step
   addOf s m a v = call (addRows w s m a v) s m [] (added s m a v)
@@ -72,7 +72,7 @@ module _ (w : ℕ) (tag : List ℕ → Entry → List ℕ) where
       let v = valueAt w m a in
       let t = takeEntry tag s (entryAt w m a) in
       let e = next t a v in
-      step (seen 0 Nothing (putEntry tag t e) (writeEntry w m e) v) (took (entryAt w m a) ∷ put e ∷ answered a v ∷ [])
+      step (seen 0 Nothing (putEntry tag t e) (writeEntry w m e) v) (took (entryAt w m a) ∷ put e ∷ [])
 
   unfoldable pub loadOf : State → List ℕ → ℕ → List ℕ → Step
   loadOf s m a o = call (useRows w s m a o) s m o (loaded s m a)
@@ -82,7 +82,7 @@ module _ (w : ℕ) (tag : List ℕ → Entry → List ℕ) where
   stored s m a v =
       let t = takeEntry tag s (entryAt w m a) in
       let e = next t a v in
-      step (seen 0 Nothing (putEntry tag t e) (writeEntry w m e) []) (took (entryAt w m a) ∷ put e ∷ set a v ∷ [])
+      step (seen 0 Nothing (putEntry tag t e) (writeEntry w m e) []) (took (entryAt w m a) ∷ put e ∷ [])
 
   unfoldable pub storeOf : State → List ℕ → ℕ → List ℕ → Step
   storeOf s m a v = call (useRows w s m a v) s m [] (stored s m a v)
@@ -91,7 +91,7 @@ module _ (w : ℕ) (tag : List ℕ → Entry → List ℕ) where
   unfoldable pub removed : State → List ℕ → ℕ → Step
   removed s m a =
       let t = takeEntry tag s (entryAt w m a) in
-      step (seen 0 Nothing (withMarks t (unmarked (s .marks) a)) (writeCell w m a (replicate valueSize 0) 0) []) (took (entryAt w m a) ∷ dropped a ∷ [])
+      step (seen 0 Nothing (withMarks t (unmarked (s .marks) a)) (writeCell w m a (replicate valueSize 0) 0) []) (took (entryAt w m a) ∷ [])
 
   unfoldable pub removeOf : State → List ℕ → ℕ → Step
   removeOf s m a = call (removeRows w s m a) s m [] (removed s m a)
@@ -106,10 +106,10 @@ lookFrom w m a = done (first (lookRows w m a)) (cellSize w * a) 0
 
 -- Lowest free, and the number and the address of each of its answers
 abbrev pub lowestRows : List ℕ → List Row
-lowestRows ws = when 9 (eqb (lowestFrom addresses 0 ws) addresses) ∷ []
+lowestRows ws = when 9 (eqb (lowestFree ws) addresses) ∷ []
 
 unfoldable pub lowestOf : List ℕ → Free
-lowestOf ws = done (first (lowestRows ws)) (At (lowestFrom addresses 0 ws)) Full
+lowestOf ws = done (first (lowestRows ws)) (At (lowestFree ws)) Full
 
 unfoldable pub freeNumber : Free → ℕ
 freeNumber (At a) = 0

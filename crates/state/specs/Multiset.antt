@@ -8,13 +8,13 @@ use lib.Dec.{eqb}
 use lib.ListN.{length, replicate}
 use Rattle.octets.specs.Layout.{bytes}
 use Rattle.octets.specs.Places.{xor, same}
-use Rattle.state.specs.Sizes.{valueSize}
-use Rattle.state.specs.Cells.{Entry}
+use Rattle.state.specs.Sizes.{tagSize, valueSize}
+use Rattle.state.specs.Cells.{Entry, cellOf}
 use Rattle.state.specs.declared.Hash.{Hash}
 
--- an entry's message: 01, the address in 2 bytes, the value, the stamp in w bytes
+-- an entry's message: 01, the address in 2 bytes, and what its cell holds, the value and the stamp in w bytes
 unfoldable pub message : ℕ → Entry → List ℕ
-message w e = 1 ∷ (bytes 2 (e .address) ++ (e .value ++ bytes w (e .stamp)))
+message w e = 1 ∷ (bytes 2 (e .address) ++ cellOf w (e .value) (e .stamp))
 
 -- an entry whose parts fit their places in a message
 pub record Fits (w : ℕ) (e : Entry) : Type 0 where
@@ -22,9 +22,9 @@ pub record Fits (w : ℕ) (e : Entry) : Type 0 where
   pub value : length (e .value) ≡ valueSize
   pub stamp : e .stamp < 256 ^ w
 
--- the exclusive-or of some tags: 32 zero bytes for none
+-- the exclusive-or of some tags: zeros for none
 unfoldable pub xorAll : List (List ℕ) → List ℕ
-xorAll [] = replicate 32 0
+xorAll [] = replicate tagSize 0
 xorAll (t ∷ ts) = xor (xorAll ts) t
 
 -- the hash of a multiset of entries, listed in any order: of all their tags, each as often as its entry occurs, with the number of elements modulo 2^32
@@ -32,7 +32,7 @@ unfoldable pub hash : (Entry → List ℕ) → List Entry → Hash
 hash tag es = record { tag = xorAll (map tag es); number = length es % 2 ^ 32 }
 
 unfoldable pub emptyHash : Hash
-emptyHash = record { tag = replicate 32 0; number = 0 }
+emptyHash = record { tag = replicate tagSize 0; number = 0 }
 
 -- a hash with one element more, by its tag
 unfoldable pub withTag : Hash → List ℕ → Hash

@@ -6,15 +6,15 @@ use Prim.Native.Nat.{ℕ}
 use lib.Dec.{eqb}
 use lib.ListN.{length, replicate}
 use Rattle.refusal.specs.Refusal.{Row, when, first, done}
-use Rattle.state.specs.Sizes.{keySize}
+use Rattle.state.specs.Sizes.{keySize, words}
 use Rattle.state.specs.Multiset.{emptyHash}
 use Rattle.state.specs.declared.State.{State}
 use Rattle.state.specs.declared.Started.{Started}
 
 -- nothing put, taken or marked, and the clock at 0
 unfoldable pub fresh : List ℕ → Bool → State
-unfolding emptyHash
-fresh k c = record { key = k; put = emptyHash; take = emptyHash; clock = 0; fault = false; closed = c; marks = replicate 16 0 }
+unfolding emptyHash words
+fresh k c = record { key = k; put = emptyHash; take = emptyHash; clock = 0; fault = false; closed = c; marks = replicate words 0 }
 
 -- what a refused start gives: closed, and zeros everywhere else
 unfoldable pub none : State

@@ -9,14 +9,10 @@ use Rattle.state.specs.Multiset.{withTag}
 use Rattle.state.specs.declared.State.{State}
 use Rattle.state.specs.declared.Verdict.{Verdict}
 
--- what a call did, in order, for definitions only: entries taken and put, a load answered with a value, a value added or stored, an address removed,
--- a check that accepted
+-- what a call did, in order, for definitions only: entries taken and put, and that a check accepted
 pub data Event : Type 0 where
   took : Entry → Event
   put : Entry → Event
-  answered : ℕ → List ℕ → Event
-  set : ℕ → List ℕ → Event
-  dropped : ℕ → Event
   accepted : Event
 
 -- what the caller has after a call: its number, the verdict, the state, the bytes of the lent store and of the lent out buffer (none: no bytes)

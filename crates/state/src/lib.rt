@@ -5,7 +5,7 @@ ghost use Rattle.state.specs.Start.{startOf, fresh};
 
 // The hash of a multiset: the exclusive-or of its tags, and how many elements it has, modulo 2^32.
 pub struct Hash {
-    pub tag: [u8; State::KEY],
+    pub tag: [u8; State::TAG],
     pub number: u32,
 }
 
@@ -54,9 +54,11 @@ pub enum Free {
 impl State {
     pub const KEY: usize = 32;
 
+    pub const TAG: usize = 32;
+
     pub const ADDRESSES: usize = 1024;
 
-    pub const WORDS: usize = 16;
+    pub const WORDS: usize = State::ADDRESSES / 64;
 
     pub const VALUE: usize = 28;
 
@@ -68,7 +70,7 @@ impl State {
 
     pub const CEILING: u16 = 65535;
 
-    // An open state under a key of 32 bytes; for any other key 8, and a closed state of zeros.
+    // An open state under a key of 32 bytes; for any other key number 8, and a closed state of zeros.
     pub fn start(key: &[u8]) -> Started
         ensures { λ r. ⌜ r ≡ startOf (now (key .entry)) ⌝ }
     {
@@ -91,7 +93,7 @@ impl State {
 fn empty(key: [u8; State::KEY], closed: bool) -> State
     ensures { λ r. ⌜ r ≡ fresh key closed ⌝ }
 {
-    let none = [0u8; State::KEY];
+    let none = [0u8; State::TAG];
     State {
         key,
         put: Hash {

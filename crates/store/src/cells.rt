@@ -1,12 +1,10 @@
 // The cells of a lent store: the value, then the stamp, most significant byte first.
 use state::State;
 ghost use mathlib.Core.Path.{_≡_};
-ghost use mathlib.Core.List.{_++_};
 ghost use Prim.Native.Nat.{_*_, _<_};
 ghost use lib.ListN.{length};
 ghost use denote.Ref.{ptr};
 ghost use Rattle.lent.specs.Lent.{place};
-ghost use Rattle.octets.specs.Layout.{bytes};
 ghost use Rattle.state.specs.Sizes.{width, addresses, cellSize, storeSize};
 ghost use Rattle.state.specs.Cells.{valueAt, stampAt, writeCell};
 
@@ -39,16 +37,6 @@ pub fn stamp_at(store: &[u8], a: usize) -> u16
     store[at] as u16 * 256 + store[at + 1] as u16
 }
 
-// Fills a cell.
-fn fill(cell: &mut [u8], value: [u8; State::VALUE], stamp: u16)
-    requires { ⌜ length (now cell) ≡ cellSize width ⌝ }
-    ensures { λ _. ⌜ now (cell .exit) ≡ value ++ bytes width stamp ⌝ }
-{
-    lent::copy(cell, &value);
-    cell[State::VALUE] = (stamp / 256) as u8;
-    cell[State::VALUE + 1] = (stamp % 256) as u8;
-}
-
 // Writes a value and a stamp to the cell of an address.
 pub fn write(store: &mut [u8], a: usize, value: [u8; State::VALUE], stamp: u16)
     requires { ⌜ (length (now store) ≡ storeSize width) × (a < addresses) ⌝ }
@@ -56,5 +44,5 @@ pub fn write(store: &mut [u8], a: usize, value: [u8; State::VALUE], stamp: u16)
 {
     let at = State::CELL * a;
     let end = at + State::CELL;
-    fill(&mut store[at..end], value, stamp);
+    lent::copy(&mut store[at..end], &entries::cell(value, stamp));
 }

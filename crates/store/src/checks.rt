@@ -4,7 +4,7 @@ ghost use mathlib.Core.Path.{_≡_};
 ghost use lib.ListN.{length};
 ghost use Rattle.state.specs.Sizes.{width, addresses, storeSize};
 ghost use Rattle.state.specs.Check.{takeBelow, openBelow, putBelow};
-ghost use Rattle.multiset.specs.Tag.{tag};
+ghost use Rattle.entries.specs.Tag.{tag};
 
 // Every address in use is taken, lowest first.
 pub fn take_all(s: State, store: &[u8]) -> State

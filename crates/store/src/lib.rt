@@ -19,7 +19,7 @@ ghost use Rattle.state.specs.Step.{seen};
 ghost use Rattle.state.specs.Moves.{addOf, loadOf, storeOf, removeOf, lookOf, lookFrom, lowestOf};
 ghost use Rattle.state.specs.Check.{checkOf};
 ghost use Rattle.state.specs.declared.Verdict.the-variants.{Nothing};
-ghost use Rattle.multiset.specs.Tag.{tag};
+ghost use Rattle.entries.specs.Tag.{tag};
 
 // Puts a value at an address that is not in use, and marks it in use.
 pub fn add(s: State, store: &mut [u8], a: usize, value: &[u8]) -> Moved

@@ -9,7 +9,7 @@ ghost use Rattle.state.specs.Cells.{entry, entryAt, writeEntry};
 ghost use Rattle.state.specs.Step.{seen, next, takeEntry, putEntry};
 ghost use Rattle.state.specs.Moves.{added, loaded, stored, removed};
 ghost use Rattle.state.specs.declared.Verdict.the-variants.{Nothing};
-ghost use Rattle.multiset.specs.Tag.{tag};
+ghost use Rattle.entries.specs.Tag.{tag};
 
 // Take: the entry that the store holds joins the take hash; a stamp above the clock marks the fault.
 pub fn take(s: State, store: &[u8], a: usize) -> State
@@ -20,7 +20,7 @@ pub fn take(s: State, store: &[u8], a: usize) -> State
     let stamp = crate::cells::stamp_at(store, a);
     let key = s.key;
     let old = s.take;
-    let h = multiset::with_tag(old, multiset::tag(key, a as u16, value, stamp));
+    let h = multiset::with_tag(old, entries::tag(key, a as u16, value, stamp));
     let mut r = s;
     r.take = h;
     if s.clock < stamp {
@@ -44,7 +44,7 @@ pub fn put_entry(
     crate::cells::write(store, a, value, stamp);
     let key = s.key;
     let old = s.put;
-    let h = multiset::with_tag(old, multiset::tag(key, a as u16, value, stamp));
+    let h = multiset::with_tag(old, entries::tag(key, a as u16, value, stamp));
     let mut r = s;
     r.put = h;
     r.clock = stamp;

@@ -91,6 +91,6 @@ pub fn tags() {
     );
     print_tag(
         b"tag of an entry: ",
-        multiset::tag([0u8; 32], 5, [0u8; 28], 3),
+        entries::tag([0u8; 32], 5, [0u8; 28], 3),
     );
 }

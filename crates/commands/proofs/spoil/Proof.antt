@@ -26,7 +26,7 @@ unfolding addresses valueSize cellSize storeSize writeCell
 returns-2 c =
     let d = c .before .before in
     let x = d .before .before .before .before .before .before .args in
-    let filling = d .copy .ensures ∙ copied-all _ _ (simp (length-take, length-drop) (omega arith)) ∙ d .before .before .cell-of .ensures in
+    let filling = d .copy .ensures ∙ copied-all _ _ (simp (length-take, length-drop) (omega arith)) ∙ d .before .before .cell .ensures in
     ap (filled 0) (ap₂ (λ (k l : List ℕ). take (30 * x .a) (x .store .now) ++ (k ++ l)) filling (post-is (30 * x .a) (30 * x .a + 30) (x .store .now) (omega arith)))
     ∙ sym (spoil-done _ (x .a) _ _ (omega arith))
 

@@ -27,7 +27,7 @@ returns-4 c =
     let a = b .before .before .before .before .before .before .before .args in
     let k = a .key .now in
     let m = a .message .now in
-    let e = hmac-finished k m (b .key-block .result) _ _ _ (search needs) (b .key-block .ensures) (i .inner-state .ensures) (o .outer-state .ensures) (h .hash-from .ensures) in
+    let e = hmac-finished k m (b .key-block .result) _ _ _ (search needs) (b .key-block .ensures) (i .inner-hash .ensures) (o .outer-hash .ensures) (h .hash-from .ensures) in
     mac-done k m (a .out .now) _ _ (omega arith) (omega arith) (omega arith) (d .hash-bytes .ensures ∙ e) (p .copy .ensures)
 
 pub mac-spec : {M : Type 1} → statement M

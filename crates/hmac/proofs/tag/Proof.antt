@@ -12,7 +12,7 @@ returns c =
     let z = i .before in
     let a = z .before .before .args in
     c .tag-from .ensures
-    ∙ hmac-finished (a .t1) (a .message) (z .zero-filled .result) _ _ _ (search needs) (z .zero-filled .ensures ∙ key-short (a .t1) (search needs)) (i .inner-state .ensures) (o .outer-state .ensures) refl
+    ∙ hmac-finished (a .t1) (a .message) (z .zero-filled .result) _ _ _ (search needs) (z .zero-filled .ensures ∙ key-short (a .t1) (search needs)) (i .inner-hash .ensures) (o .outer-hash .ensures) refl
 
 pub tag-spec : {M : Type 1} → statement M
 tag-spec =

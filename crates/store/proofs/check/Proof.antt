@@ -6,7 +6,7 @@ use Rattle.state.specs.Sizes.{addresses, width}
 use Rattle.state.specs.Step.{seen}
 use Rattle.state.specs.Check.{checkOf, agrees, takeBelow, acceptance, rejection}
 use Rattle.state.specs.declared.Verdict.the-variants.{Accept, Reject}
-use Rattle.multiset.specs.Tag.{tag}
+use Rattle.entries.specs.Tag.{tag}
 use Rattle.state.proofs.Ready.{check-ready, call-done}
 use Rattle.store.proofs.Answers.{refused-seen}
 use Rattle.store.proofs.check.Statement.{statement}

@@ -9,7 +9,7 @@ use Rattle.marks.specs.Next.{nextUsed}
 use Rattle.state.specs.Sizes.{addresses, storeSize, width}
 use Rattle.state.specs.Marks.{used}
 use Rattle.state.specs.Check.{opened, openBelow, putBelow}
-use Rattle.multiset.specs.Tag.{tag}
+use Rattle.entries.specs.Tag.{tag}
 use Rattle.store.proofs.Loops.{next, open-begin, open-turn, open-length, open-again}
 use Rattle.store.proofs.checks.put_all.Statement.{statement}
 use Rattle.store.proofs.checks.put_all.Tie as tie

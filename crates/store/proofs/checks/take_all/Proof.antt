@@ -7,7 +7,7 @@ use native.Mathlib.Omega.{arith}
 use Rattle.state.specs.Sizes.{addresses, width}
 use Rattle.state.specs.Marks.{used}
 use Rattle.state.specs.Check.{takeBelow}
-use Rattle.multiset.specs.Tag.{tag}
+use Rattle.entries.specs.Tag.{tag}
 use Rattle.store.proofs.Loops.{next, take-begin, take-turn}
 use Rattle.store.proofs.checks.take_all.Statement.{statement}
 use Rattle.store.proofs.checks.take_all.Tie as tie

@@ -7,7 +7,7 @@ use Rattle.state.specs.Sizes.{valueSize, width}
 use Rattle.state.specs.Cells.{writeEntry}
 use Rattle.state.specs.Step.{next, putEntry, withMarks}
 use Rattle.state.specs.Moves.{added}
-use Rattle.multiset.specs.Tag.{tag}
+use Rattle.entries.specs.Tag.{tag}
 use Rattle.store.proofs.Fields.{same-seen}
 use Rattle.store.proofs.moves.added.Statement.{statement}
 use Rattle.store.proofs.moves.added.Tie as tie

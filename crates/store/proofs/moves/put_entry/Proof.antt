@@ -2,7 +2,7 @@
 use borrow.Author.Needs.{needs}
 use Rattle.state.specs.Sizes.{addresses}
 use Rattle.state.specs.Cells.{entry, writeEntry}
-use Rattle.multiset.specs.Tag.{tag}
+use Rattle.entries.specs.Tag.{tag}
 use Rattle.store.proofs.Fields.{put-is}
 use Rattle.store.proofs.moves.put_entry.Statement.{statement}
 use Rattle.store.proofs.moves.put_entry.Tie as tie

@@ -7,7 +7,7 @@ use Rattle.state.specs.Sizes.{valueSize, width}
 use Rattle.state.specs.Cells.{writeEntry}
 use Rattle.state.specs.Step.{next, putEntry}
 use Rattle.state.specs.Moves.{stored}
-use Rattle.multiset.specs.Tag.{tag}
+use Rattle.entries.specs.Tag.{tag}
 use Rattle.store.proofs.Fields.{take-clock, same-seen}
 use Rattle.store.proofs.moves.stored.Statement.{statement}
 use Rattle.store.proofs.moves.stored.Tie as tie

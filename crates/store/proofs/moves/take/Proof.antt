@@ -1,7 +1,7 @@
 -- `store::moves::take` meets its contract: the entry read is hashed, and its stamp compared with the clock at entry. Assumes nothing.
 use borrow.Author.Needs.{needs}
 use Rattle.state.specs.Sizes.{addresses, width}
-use Rattle.multiset.specs.Tag.{tag}
+use Rattle.entries.specs.Tag.{tag}
 use Rattle.store.proofs.Fields.{take-is, fault-marked, fault-kept}
 use Rattle.store.proofs.moves.take.Statement.{statement}
 use Rattle.store.proofs.moves.take.Tie as tie

@@ -1,0 +1,122 @@
+"""Holds each must-fail edit to the place where it must fail, by the logs that the toolchain leaves.
+
+An edit file has one wrong program or definition, or a wrong body for each of several functions, which are then checked at once. Each has a
+label and the file of the proof that it must break:
+
+    wrong: LABEL
+    fails: proofs/FUNCTION/Proof.antt
+    file: src/lib.rt
+    old: TEXT
+    new: TEXT
+
+The toolchain tells only that the whole was refused. Here every file under `fails:` must have an error of its own in the log: not one that
+merely says that something it rests on was not admitted. (A function whose proof the toolchain makes has no such file; its failure is told
+under the name that the file would have.) Where there are several, each error must be the doing of one of them: each changes
+the body of the very function whose proof it names, no two the same function, and no other file has an error of its own. A function's proof
+rests on its own body and on the contracts of what it calls, so the other wrong bodies have no part in its error.
+
+Prints what does not hold; exit status 1 where something does not, or where there is no edit.
+"""
+import dataclasses
+import pathlib
+import re
+import sys
+
+TOP = pathlib.Path(__file__).resolve().parent.parent
+ONLY_RESTS = "was not admitted (it has holes or undetermined implicits, or was rejected), so this cannot be checked"
+
+
+@dataclasses.dataclass
+class Wrong:
+    """A wrong program or definition: its label, the file that must fail, and the texts that it changes, each with its file."""
+
+    label: str
+    fails: str = ""
+    changes: list = dataclasses.field(default_factory=list)
+
+
+def wrongs(edit):
+    """What an edit file has."""
+    found = []
+    file = ""
+    for line in edit.read_text().splitlines():
+        key, _, value = line.partition(": ")
+        if key == "wrong":
+            found.append(Wrong(value))
+        elif key == "file":
+            file = value
+        elif key == "fails" and found:
+            found[-1].fails = value
+        elif key == "old":
+            if not found:
+                found.append(Wrong(""))
+            found[-1].changes.append((file, value))
+    return found
+
+
+def labels(crate):
+    """The labels of a crate's wrong programs and definitions."""
+    return [one.label for edit in sorted((crate / "must-fail").glob("*.edit")) for one in wrongs(edit)]
+
+
+def own_errors(where):
+    """The files that have an error of their own in the log of an edit."""
+    files = set()
+    for line in (where / ".log").read_text().splitlines():
+        error = re.match(r"(\S+?):\d+:\d+: error: ", line) or re.match(r"fn \S+: no proof: expected \S+ in (\S+);", line)
+        if error and ONLY_RESTS not in line:
+            files.add(error[1].removeprefix(f"{where}/"))
+    return files
+
+
+def proof_of(crate, file, text):
+    """The proof of the function of a source file whose body has a text."""
+    name = re.findall(r"\bfn (\w+)", (crate / file).read_text().split(text)[0])
+    module = pathlib.Path(file).stem
+    folder = "proofs" if module in ("lib", "main") else f"proofs/{module}"
+    return f"{folder}/{name[-1]}/Proof.antt" if name else None
+
+
+def apart(crate, found, failing):
+    """What keeps the errors of several wrong bodies from being told apart."""
+    named = [one.fails for one in found]
+    return (
+        [
+            f"{one.label}: {file} is changed outside of the function that {one.fails} proves"
+            for one in found
+            for file, text in one.changes
+            if not file.startswith("src/") or proof_of(crate, file, text) != one.fails
+        ]
+        + [f"two of them name {name}" for name in sorted(set(named)) if named.count(name) > 1]
+        + [f"{name} has an error of its own, and none of them names it" for name in sorted(failing - set(named))]
+    )
+
+
+def faults(crate, edit):
+    """What does not hold of an edit file."""
+    found = wrongs(edit)
+    where = TOP / "target" / "must-fail" / crate.name / edit.stem
+    if not (where / ".log").exists():
+        return ["it was not tried"]
+    if not found or not all(one.label and one.fails and one.changes for one in found):
+        return ["it lacks a label, the file that must fail, or a change"]
+    failing = own_errors(where)
+    said = [f"{one.label}: no error of its own in {one.fails}, but in {sorted(failing)}" for one in found if one.fails not in failing]
+    return said + (apart(crate, found, failing) if len(found) > 1 else [])
+
+
+def main():
+    count = 0
+    wrong = []
+    for crate in sorted((TOP / "crates").iterdir()):
+        here = labels(crate)
+        count += len(here)
+        wrong += [f"{crate.name}: two are called {label}" for label in sorted(set(here)) if here.count(label) > 1]
+        for edit in sorted((crate / "must-fail").glob("*.edit")):
+            wrong += [f"{crate.name}/{edit.name}: {said}" for said in faults(crate, edit)]
+    print("\n".join(wrong) if wrong else f"{count} wrong programs and definitions, each refused where it must be")
+    return 1 if wrong or not count else 0
+
+
+if __name__ == "__main__":
+    sys.exit(main())
