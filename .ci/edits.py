@@ -1,7 +1,7 @@
 """Holds each must-fail edit to the place where it must fail, by the logs that the toolchain leaves.
 
-An edit file has one wrong program or definition, or a wrong body for each of several functions, which are then checked at once. Each has a
-label and the file of the proof that it must break:
+An edit file has one wrong program or definition, or several that are checked at once. Each has a label, and the file of the proof that it must
+break; of a wrong definition also the declaration there:
 
     wrong: LABEL
     fails: proofs/FUNCTION/Proof.antt
@@ -9,11 +9,14 @@ label and the file of the proof that it must break:
     old: TEXT
     new: TEXT
 
-The toolchain tells only that the whole was refused. Here every file under `fails:` must have an error of its own in the log: not one that
+The toolchain tells only that the whole was refused. Here everything under `fails:` must have an error of its own in the log: not one that
 merely says that something it rests on was not admitted. (A function whose proof the toolchain makes has no such file; its failure is told
-under the name that the file would have.) Where there are several, each error must be the doing of one of them: each changes
-the body of the very function whose proof it names, no two the same function, and no other file has an error of its own. A function's proof
-rests on its own body and on the contracts of what it calls, so the other wrong bodies have no part in its error.
+under the name that the file would have.) Where there are several in a file, each must have an error that is its own doing:
+
+- Of wrong functions each changes the body of the very function whose proof it names, no two the same function, and no other file has an error
+  of its own. A function's proof rests on its own body and on the contracts of what it calls, so the other wrong bodies have no part in it.
+- Of wrong definitions no two name the same declaration. That none of the others breaks it too was seen when the file was written, by trying
+  each alone.
 
 Prints what does not hold; exit status 1 where something does not, or where there is no edit.
 """
@@ -28,7 +31,7 @@ ONLY_RESTS = "was not admitted (it has holes or undetermined implicits, or was r
 
 @dataclasses.dataclass
 class Wrong:
-    """A wrong program or definition: its label, the file that must fail, and the texts that it changes, each with its file."""
+    """A wrong program or definition: its label, what must fail, and the texts that it changes, each with its file."""
 
     label: str
     fails: str = ""
@@ -60,13 +63,15 @@ def labels(crate):
 
 
 def own_errors(where):
-    """The files that have an error of their own in the log of an edit."""
-    files = set()
+    """The files that have an error of their own in the log of an edit, and with them the declarations that have one, as FILE NAME."""
+    found = set()
     for line in (where / ".log").read_text().splitlines():
-        error = re.match(r"(\S+?):\d+:\d+: error: ", line) or re.match(r"fn \S+: no proof: expected \S+ in (\S+);", line)
+        error = re.match(r"(\S+?):\d+:\d+: error: `([^`]*)`", line) or re.match(r"fn \S+: no proof: expected `([^`]*)` in (\S+);", line)
         if error and ONLY_RESTS not in line:
-            files.add(error[1].removeprefix(f"{where}/"))
-    return files
+            file, name = (error[1], error[2]) if ": error: " in line else (error[2], error[1])
+            file = file.removeprefix(f"{where}/")
+            found |= {file, f"{file} {name}"}
+    return found
 
 
 def proof_of(crate, file, text):
@@ -78,18 +83,18 @@ def proof_of(crate, file, text):
 
 
 def apart(crate, found, failing):
-    """What keeps the errors of several wrong bodies from being told apart."""
+    """What keeps the errors of several wrong functions, or of several wrong definitions, from being told apart."""
     named = [one.fails for one in found]
-    return (
-        [
-            f"{one.label}: {file} is changed outside of the function that {one.fails} proves"
-            for one in found
-            for file, text in one.changes
-            if not file.startswith("src/") or proof_of(crate, file, text) != one.fails
-        ]
-        + [f"two of them name {name}" for name in sorted(set(named)) if named.count(name) > 1]
-        + [f"{name} has an error of its own, and none of them names it" for name in sorted(failing - set(named))]
-    )
+    said = [f"two of them name {name}" for name in sorted(set(named)) if named.count(name) > 1]
+    if not any(file.startswith("src/") for one in found for file, _ in one.changes):
+        return said + [f"{one.label}: it names no declaration" for one in found if " " not in one.fails]
+    said += [f"{name} has an error of its own, and none of them names it" for name in sorted(failing - set(named)) if " " not in name]
+    return said + [
+        f"{one.label}: {file} is changed outside of the function that {one.fails} proves"
+        for one in found
+        for file, text in one.changes
+        if not file.startswith("src/") or proof_of(crate, file, text) != one.fails
+    ]
 
 
 def faults(crate, edit):
@@ -99,7 +104,7 @@ def faults(crate, edit):
     if not (where / ".log").exists():
         return ["it was not tried"]
     if not found or not all(one.label and one.fails and one.changes for one in found):
-        return ["it lacks a label, the file that must fail, or a change"]
+        return ["it lacks a label, what must fail, or a change"]
     failing = own_errors(where)
     said = [f"{one.label}: no error of its own in {one.fails}, but in {sorted(failing)}" for one in found if one.fails not in failing]
     return said + (apart(crate, found, failing) if len(found) > 1 else [])

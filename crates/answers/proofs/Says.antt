@@ -14,7 +14,7 @@ use Rattle.answers.specs.declared.Name.the-variants.{Add, Store, Load, R
 use Rattle.answers.specs.declared.Answer.{Answer}
 use Rattle.answers.specs.declared.Answer.the-variants.{Numbered, Loaded, Accepted, Rejected, Bad}
 
--- what is written for a name or an answer that is another's
+-- equal names, and equal answers, write the same
 pub same-name : (g : Page) (a b : Name) (x : Page) → x ≡ write g (nameOf a ++ (blank ∷ [])) → b ≡ a → x ≡ write g (nameOf b ++ (blank ∷ []))
 same-name g a b x e q = e ∙ ap (λ k. write g (nameOf k ++ (blank ∷ []))) (sym q)
 

@@ -20,7 +20,7 @@ use Rattle.answers.specs.declared.Name.the-variants as name
 use Rattle.answers.specs.declared.Answer.{Answer}
 use Rattle.answers.specs.declared.Answer.the-variants as answer
 
--- a value: the byte that fills all 28
+-- a value of one byte, over and over
 abbrev pub filledWith : ℕ → List ℕ
 filledWith b = replicate valueSize b
 

@@ -9,7 +9,7 @@ ghost use lib.ListN.{length};
 ghost use Rattle.refusal.specs.Refusal.{filled};
 ghost use Rattle.state.specs.Sizes.{width, storeSize};
 ghost use Rattle.lines.specs.declared.Command.the-variants.{Add, Store, Load, Remove, Check, Spoil};
-ghost use Rattle.commands.specs.Commands.{filledWith, spoilOf, loadAnswer, checkAnswer, ran, ranCommand};
+ghost use Rattle.commands.specs.Commands.{spoilOf, loadAnswer, checkAnswer, ran, ranCommand};
 
 // The state after a command, and what is to be printed.
 pub struct Ran {

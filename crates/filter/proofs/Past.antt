@@ -75,7 +75,7 @@ clear-bits k n z i h =
     let e : n % 2 ^ (1 + i) ≡ n % 2 ^ k % 2 ^ (1 + i) = sym (mod-mod-pow n (k - (1 + i)) (1 + i)) ∙ ap (λ (x : ℕ). n % 2 ^ x % 2 ^ (1 + i)) (sym d) in
     both-zero (n / 2 ^ i % 2) (2 ^ i) (n % 2 ^ i) (pow-pos i) (sym (mod-pow-add n 1 i) ∙ e ∙ ap (λ (x : ℕ). x % 2 ^ (1 + i)) z ∙ zero-mod (2 ^ (1 + i))) .0
 
--- no bit of 16 bytes past the first l is set: bit by bit, as the document says it
+-- no bit of 16 bytes past the first l is set: bit by bit, as the rules say it
 pub past-bits : (p : List ℕ) (l : ℕ) → length p ≡ 16 → setPast p l ≡ false → (i : ℕ) → l ≤ i → i < 128 → bit p i ≡ 0
 unfolding setPast
 past-bits p l n e i h g =

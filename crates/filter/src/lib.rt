@@ -41,7 +41,7 @@ pub fn pack(r: FilterRecord, out: &mut [u8]) -> u8
     if out.len() != 28 {
         return 11;
     }
-    let n = fault(r);
+    let n = number_of(r);
     if n != 0 {
         return n;
     }
@@ -62,7 +62,7 @@ pub fn unpack(bytes: &[u8]) -> Unpacked
         return refused(12);
     }
     let r = read(b);
-    let n = fault(r);
+    let n = number_of(r);
     if n != 0 {
         return refused(n);
     }
@@ -73,7 +73,7 @@ pub fn unpack(bytes: &[u8]) -> Unpacked
 }
 
 // The first of the numbers 13 to 15 that is due, or 0.
-fn fault(r: FilterRecord) -> u8
+fn number_of(r: FilterRecord) -> u8
     ensures { λ n. ⌜ n ≡ first (filterRows r) ⌝ }
 {
     let f = r.family;

@@ -2,7 +2,6 @@
 use state::State;
 ghost use mathlib.Core.Path.{_≡_};
 ghost use Prim.Native.Nat.{_*_, _≤_};
-ghost use Rattle.state.specs.Sizes.{addresses};
 ghost use Rattle.state.specs.Marks.{used, marked, unmarked, countOf, lowestFree};
 ghost use Rattle.marks.specs.Next.{nextUsed};
 

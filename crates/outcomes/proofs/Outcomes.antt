@@ -69,6 +69,7 @@ outcomes = record {
   number-of-remove = record { any = λ κs a. tt; one = λ κs a r r′ l l′. plain };
   number-of-check = record { any = λ κs a. tt; one = λ κs a r r′ l l′. plain };
   number-of-look = record { any = λ κs a. tt; one = λ κs a r r′ l l′. plain };
+  cell = record { any = λ κs a. tt; one = λ κs a r r′ l l′. plain };
   message = record { any = λ κs a. tt; one = λ κs a r r′ l l′. plain };
   tag = record { any = λ κs a. tt; one = λ κs a r r′ l l′. plain };
   with-tag = record { any = λ κs a. tt; one = λ κs a r r′ l l′. plain };

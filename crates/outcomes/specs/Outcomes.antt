@@ -40,6 +40,7 @@ use Rattle.numbers.proofs.use_of as NumberOfUse
 use Rattle.numbers.proofs.remove as NumberOfRemove
 use Rattle.numbers.proofs.check as NumberOfCheck
 use Rattle.numbers.proofs.look as NumberOfLook
+use Rattle.entries.proofs.cell as Cell
 use Rattle.entries.proofs.message as Message
 use Rattle.entries.proofs.tag as Tag
 use Rattle.multiset.proofs.with_tag as WithTag
@@ -110,6 +111,7 @@ pub record Outcomes : Type 1 where
   pub number-of-remove : Tight NumberOfRemove.ended NumberOfRemove.Reads.Asked NumberOfRemove.Reads.Learnt
   pub number-of-check : Tight NumberOfCheck.ended NumberOfCheck.Reads.Asked NumberOfCheck.Reads.Learnt
   pub number-of-look : Tight NumberOfLook.ended NumberOfLook.Reads.Asked NumberOfLook.Reads.Learnt
+  pub cell : Tight Cell.ended Cell.Reads.Asked Cell.Reads.Learnt
   pub message : Tight Message.ended Message.Reads.Asked Message.Reads.Learnt
   pub tag : Tight Tag.ended Tag.Reads.Asked Tag.Reads.Learnt
   pub with-tag : Tight WithTag.ended WithTag.Reads.Asked WithTag.Reads.Learnt

@@ -2,29 +2,28 @@
 use borrow.Author.Tests.{eq-eqb, lt-ltb}
 use mathlib.Core.Path.{_≡_, refl, sym, ap, _∙_}
 use mathlib.Core.Bool.{false, cond}
-use mathlib.Core.List.{List, [], _∷_, _++_, append-nil}
+use mathlib.Core.List.{List, [], _++_, append-nil}
 use Prim.Native.Nat.{ℕ, _+_, _<_}
 use native.Mathlib.Omega.{arith}
 use lib.Dec.{eqb}
-use lib.ListN.{length, take, drop, replicate}
+use lib.ListN.{length, take, drop}
 use lib.Seq.{drop-length}
-use Rattle.octets.specs.Layout.{total, split, number, bytes}
+use Rattle.octets.specs.Layout.{total, split, bytes}
 use Rattle.refusal.specs.Refusal.{first}
 use Rattle.refusal.proofs.Exact.{exactly}
 use Rattle.state.specs.Sizes.{width, addresses, valueSize, cellSize, storeSize, ceiling}
 use Rattle.state.specs.Marks.{used, countBelow, countOf, firstFrom, lowestFree}
-use Rattle.state.specs.Cells.{entry, writeCell, writeEntry}
+use Rattle.state.specs.Cells.{writeCell, writeEntry}
 use Rattle.state.specs.Multiset.{message}
 use Rattle.state.specs.Step.{Seen, Step, next, withMarks, putEntry}
 use Rattle.state.specs.Moves.{addRows, useRows, removeRows, lookRows, added, call, addOf, loadOf, storeOf, removeOf, lookOf, lowestOf, freeNumber}
 use Rattle.state.specs.declared.State.{State}
-use Rattle.state.specs.declared.Free.the-variants.{At, Full}
 use Rattle.state.proofs.Ready.{call-done, add-ready}
 use Rattle.entries.specs.Tag.{tag, tagOf}
 use Rattle.promises.proofs.Filters.{example-6, example-7, example-8, example-9, example-10, example-11}
 use Rattle.state.proofs.Multiset.{pairs}
 use Rattle.hmac.proofs.Answers.{hmac-length}
-use Rattle.promises.specs.Examples.{add, full, Sized, Examples}
+use Rattle.promises.specs.Examples.{add, Sized, Example1, Example2, Example3, Example4, Example5, Example12, Example13, Example14, Examples}
 use Rattle.promises.proofs.Numbers.{numbers}
 
 add-done : (s : State) (m : List ℕ) (a : ℕ) (v : List ℕ) → first (addRows width s m a v) ≡ 0 → add s m a v ≡ added width tag s m a v .seen
@@ -51,57 +50,62 @@ store-size : (m : List ℕ) → length m ≡ storeSize width → length m ≡ 30
 unfolding storeSize addresses cellSize valueSize
 store-size m e = e
 
-five : message width (entry 5 (replicate 28 0) 3) ≡ 0x01 ∷ 0x00 ∷ 0x05 ∷ (replicate 28 0 ++ (0x00 ∷ 0x03 ∷ []))
+example-1 : Example1
+example-1 s m v e = add-stores s m 0 v e ∙ first-cell m v (s .clock + 1)
+
+example-2 : Example2
+example-2 s m v e = add-stores s m 1023 v e ∙ last-cell m v (s .clock + 1) (store-size m (add-ready width s m 1023 v (add-first s m 1023 v e) .0 .size))
+
+example-3 : Example3
 unfolding message bytes split total
-five = refl
+example-3 = refl
 
-first-word : (countOf (full ∷ replicate 15 0) ≡ 64) × (lowestOf (full ∷ replicate 15 0) ≡ At 64)
+example-4 : Example4
+unfolding addOf loadOf storeOf removeOf lookOf call addRows useRows removeRows lookRows storeSize addresses cellSize valueSize
+example-4 s m v z =
+    let l = eq-eqb (length m) 30720 (z .store) in
+    (simp (z .unclosed, l), simp (z .unclosed, l), simp (z .unclosed, l), simp (z .unclosed, l), simp l)
+
+rows-at : (s : State) (m v : List ℕ) (a c : ℕ) → Sized s m v → a < 1024 → used (s .marks) a ≡ false → s .clock ≡ c
+    → first (addRows width s m a v) ≡ cond (eqb c 65535) 6 0
+unfolding addRows storeSize addresses cellSize valueSize ceiling
+rows-at s m v a c z h u e = simp (z .unclosed, eq-eqb (length m) 30720 (z .store), lt-ltb a 1024 h, eq-eqb (length v) 28 (z .value), u, e)
+
+example-5 : Example5
+unfolding added next withMarks putEntry
+example-5 s m v a z h u = (
+  (λ e.
+      let d = add-done s m a v (rows-at s m v a 65534 z h u e) in
+      (ap (λ (x : Seen). x .number) d, ap (λ (x : Seen). x .state .clock) d ∙ omega (arith, e))),
+  (λ e. numbers .add s m a v .number 6 .1 (exactly 6 (addRows width s m a v) .0 (rows-at s m v a 65535 z h u e))),
+)
+
+example-12 : Example12
 unfolding countOf countBelow used lowestOf lowestFree firstFrom addresses
-first-word = (refl, refl)
+example-12 = (refl, refl)
 
-all-words : (countOf (replicate 16 full) ≡ 1024) × (lowestOf (replicate 16 full) ≡ Full) × (freeNumber Full ≡ 9)
+example-13 : Example13
 unfolding countOf countBelow used lowestOf lowestFree firstFrom addresses freeNumber
-all-words = (refl, refl, refl)
+example-13 = (refl, refl, refl)
 
-module _ (s : State) (m v : List ℕ) (z : Sized s m v) where
-  past-end : (add s m 1024 v .number ≡ 2) × (loadOf width tag s m 1024 v .seen .number ≡ 2) × (storeOf width tag s m 1024 v .seen .number ≡ 2)
-      × (removeOf width tag s m 1024 .seen .number ≡ 2) × (lookOf width m 1024 ≡ [])
-  unfolding addOf loadOf storeOf removeOf lookOf call addRows useRows removeRows lookRows storeSize addresses cellSize valueSize
-  past-end =
-      let l = eq-eqb (length m) 30720 (z .store) in
-      (simp (z .unclosed, l), simp (z .unclosed, l), simp (z .unclosed, l), simp (z .unclosed, l), simp l)
-
-  module _ (a : ℕ) (h : a < 1024) (u : used (s .marks) a ≡ false) where
-    rows-at : (c : ℕ) → s .clock ≡ c → first (addRows width s m a v) ≡ cond (eqb c 65535) 6 0
-    unfolding addRows storeSize addresses cellSize valueSize ceiling
-    rows-at c e = simp (z .unclosed, eq-eqb (length m) 30720 (z .store), lt-ltb a 1024 h, eq-eqb (length v) 28 (z .value), u, e)
-
-    last-tick : s .clock ≡ 65534 → (add s m a v .number ≡ 0) × (add s m a v .state .clock ≡ 65535)
-    unfolding added next withMarks putEntry
-    last-tick e =
-        let d = add-done s m a v (rows-at 65534 e) in
-        (ap (λ (x : Seen). x .number) d, ap (λ (x : Seen). x .state .clock) d ∙ omega (arith, e))
-
-    no-tick : s .clock ≡ 65535 → add s m a v .number ≡ 6
-    no-tick e = numbers .add s m a v .number 6 .1 (exactly 6 (addRows width s m a v) .0 (rows-at 65535 e))
+example-14 : Example14
+unfolding tagOf
+example-14 key x y = pairs (tag key) (λ e. hmac-length key (message width e)) x y
 
 pub examples : Examples
-unfolding tagOf
 examples = record {
-  cell-0 = λ s m v e. add-stores s m 0 v e ∙ first-cell m v (s .clock + 1);
-  cell-1023 = λ s m v e.
-      add-stores s m 1023 v e ∙ last-cell m v (s .clock + 1) (store-size m (add-ready width s m 1023 v (add-first s m 1023 v e) .0 .size));
-  message-5 = five;
-  address-1024 = past-end;
-  clock-65534 = λ s m v a z h u e. last-tick s m v z a h u e;
-  clock-65535 = λ s m v a z h u e. no-tick s m v z a h u e;
+  cell-0 = example-1;
+  cell-1023 = example-2;
+  message-5 = example-3;
+  address-1024 = example-4;
+  last-clocks = example-5;
   permit-24 = example-6;
   spare-bit = example-7;
   lengths = example-8;
   past-prefix = example-9;
   member-0 = example-10;
   deny-128 = example-11;
-  marks-64 = first-word;
-  marks-all = all-words;
-  twins = λ key x y. pairs (tag key) (λ e. hmac-length key (message width e)) x y;
+  marks-64 = example-12;
+  marks-all = example-13;
+  twins = example-14;
 }

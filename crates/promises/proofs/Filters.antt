@@ -3,7 +3,7 @@ use mathlib.Core.Path.{_≡_, refl, sym, ap, _∙_}
 use mathlib.Core.List.{List, [], _∷_, _++_}
 use Prim.Native.Nat.{ℕ, _/_, _%_, _^_, _<_, _≤_}
 use native.Mathlib.Omega.{arith}
-use lib.ListN.{length, take, replicate}
+use lib.ListN.{take, replicate}
 use borrow.Author.Tests.{ne-eqb, le-leb}
 use Rattle.octets.specs.Layout.{total, join, split, octets, number, bytes}
 use Rattle.octets.proofs.Layouts.{fit-test, fit-each}

@@ -1,13 +1,13 @@
 -- Every call's number is the first of its rows that holds, so refusal's theorem gives each number exactly; a refused call is the one that changes nothing.
 -- Assumes nothing.
-use mathlib.Core.Path.{_≡_, refl, sym, ap, _∙_}
+use mathlib.Core.Path.{_≡_, refl, ap, _∙_}
 use mathlib.Core.Bool.{Bool, true, false, cond}
 use mathlib.Core.List.{List, []}
 use mathlib.Core.Logic.{_↔_}
 use mathlib.Core.Option.{some, Option·none-ne-some, Option·some-injective}
 use Prim.Native.Nat.{ℕ, zero, suc}
 use native.Mathlib.Omega.{arith}
-use Rattle.refusal.specs.Refusal.{Row, first, done, Given, fills}
+use Rattle.refusal.specs.Refusal.{Row, first, done, Given}
 use Rattle.refusal.proofs.Exact.{exactly, fills-exactly}
 use Rattle.refusal.proofs.Passed.{done-other}
 use lib.Dec.{eqb}

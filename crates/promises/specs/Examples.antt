@@ -30,21 +30,53 @@ pub record Sized (s : State) (m v : List ℕ) : Type 0 where
   pub store : length m ≡ 30720
   pub value : length v ≡ 28
 
+-- 1. cell 0 is bytes 0 to 29: what an add at 0 writes, and no other
+abbrev pub Example1 : Type 0
+Example1 = (s : State) (m v : List ℕ) → add s m 0 v .number ≡ 0 → add s m 0 v .store ≡ (v ++ bytes 2 (s .clock + 1)) ++ drop 30 m
+
+-- 2. cell 1,023 is bytes 30,690 to 30,719
+abbrev pub Example2 : Type 0
+Example2 = (s : State) (m v : List ℕ) → add s m 1023 v .number ≡ 0 → add s m 1023 v .store ≡ take 30690 m ++ (v ++ bytes 2 (s .clock + 1))
+
+-- 3. address 5, stamp 3, a zero value: message 01 00 05, 28 zeros, 00 03
+abbrev pub Example3 : Type 0
+Example3 = message width (entry 5 (replicate 28 0) 3) ≡ 0x01 ∷ 0x00 ∷ 0x05 ∷ (replicate 28 0 ++ (0x00 ∷ 0x03 ∷ []))
+
+-- 4. address 1,024: number 2; for a look, no bytes
+abbrev pub Example4 : Type 0
+Example4 = (s : State) (m v : List ℕ) → Sized s m v
+    → (add s m 1024 v .number ≡ 2) × (loadOf width tag s m 1024 v .seen .number ≡ 2) × (storeOf width tag s m 1024 v .seen .number ≡ 2)
+    × (removeOf width tag s m 1024 .seen .number ≡ 2) × (lookOf width m 1024 ≡ [])
+
+-- 5. at clock 65,534 an add works, and leaves the clock at 65,535; there it gives 6
+abbrev pub Example5 : Type 0
+Example5 = (s : State) (m v : List ℕ) (a : ℕ) → Sized s m v → a < 1024 → used (s .marks) a ≡ false
+    → (s .clock ≡ 65534 → (add s m a v .number ≡ 0) × (add s m a v .state .clock ≡ 65535)) × (s .clock ≡ 65535 → add s m a v .number ≡ 6)
+
+-- 12. marks 0 to 63 set: count 64, lowest free 64
+abbrev pub Example12 : Type 0
+Example12 = (countOf (full ∷ replicate 15 0) ≡ 64) × (lowestOf (full ∷ replicate 15 0) ≡ At 64)
+
+-- 13. all set: count 1,024, number 9
+abbrev pub Example13 : Type 0
+Example13 = (countOf (replicate 16 full) ≡ 1024) × (lowestOf (replicate 16 full) ≡ Full) × (freeNumber Full ≡ 9)
+
+-- 14. {x, x} and {y, y} have equal hashes, whatever x and y are, under every key
+abbrev pub Example14 : Type 0
+Example14 = (key : List ℕ) (x y : Entry) → hash (tag key) (x ∷ x ∷ []) ≡ hash (tag key) (y ∷ y ∷ [])
+
+-- all fourteen
 pub record Examples : Type 0 where
-  -- 1. cell 0 is bytes 0 to 29: what an add at 0 writes, and no other
-  pub cell-0 : (s : State) (m v : List ℕ) → add s m 0 v .number ≡ 0 → add s m 0 v .store ≡ (v ++ bytes 2 (s .clock + 1)) ++ drop 30 m
-  -- 2. cell 1,023 is bytes 30,690 to 30,719
-  pub cell-1023 : (s : State) (m v : List ℕ) → add s m 1023 v .number ≡ 0 → add s m 1023 v .store ≡ take 30690 m ++ (v ++ bytes 2 (s .clock + 1))
-  -- 3. address 5, stamp 3, a zero value: message 01 00 05, 28 zeros, 00 03
-  pub message-5 : message width (entry 5 (replicate 28 0) 3) ≡ 0x01 ∷ 0x00 ∷ 0x05 ∷ (replicate 28 0 ++ (0x00 ∷ 0x03 ∷ []))
-  -- 4. address 1,024: number 2; for a look, no bytes
-  pub address-1024 : (s : State) (m v : List ℕ) → Sized s m v
-      → (add s m 1024 v .number ≡ 2) × (loadOf width tag s m 1024 v .seen .number ≡ 2) × (storeOf width tag s m 1024 v .seen .number ≡ 2)
-      × (removeOf width tag s m 1024 .seen .number ≡ 2) × (lookOf width m 1024 ≡ [])
-  -- 5. at clock 65,534 an add works, and leaves the clock at 65,535; there it gives 6
-  pub clock-65534 : (s : State) (m v : List ℕ) (a : ℕ) → Sized s m v → a < 1024 → used (s .marks) a ≡ false → s .clock ≡ 65534
-      → (add s m a v .number ≡ 0) × (add s m a v .state .clock ≡ 65535)
-  pub clock-65535 : (s : State) (m v : List ℕ) (a : ℕ) → Sized s m v → a < 1024 → used (s .marks) a ≡ false → s .clock ≡ 65535 → add s m a v .number ≡ 6
+  -- 1. cell 0
+  pub cell-0 : Example1
+  -- 2. cell 1,023
+  pub cell-1023 : Example2
+  -- 3. the message of an entry
+  pub message-5 : Example3
+  -- 4. address 1,024
+  pub address-1024 : Example4
+  -- 5. the last two clocks
+  pub last-clocks : Example5
   -- 6. permit 192.0.2.0/24, longest 24, AS 64496, serial 7: its 28 bytes
   pub permit-24 : Example6
   -- 7. the same with byte 3 as 01: 12
@@ -57,9 +89,9 @@ pub record Examples : Type 0 where
   pub member-0 : Example10
   -- 11. deny ::1/128, longest 128: begins A0 20 00 00
   pub deny-128 : Example11
-  -- 12. marks 0 to 63 set: count 64, lowest free 64
-  pub marks-64 : (countOf (full ∷ replicate 15 0) ≡ 64) × (lowestOf (full ∷ replicate 15 0) ≡ At 64)
-  -- 13. all set: count 1,024, number 9
-  pub marks-all : (countOf (replicate 16 full) ≡ 1024) × (lowestOf (replicate 16 full) ≡ Full) × (freeNumber Full ≡ 9)
-  -- 14. {x, x} and {y, y} have equal hashes, whatever x and y are, under every key
-  pub twins : (key : List ℕ) (x y : Entry) → hash (tag key) (x ∷ x ∷ []) ≡ hash (tag key) (y ∷ y ∷ [])
+  -- 12. a word of marks
+  pub marks-64 : Example12
+  -- 13. every mark
+  pub marks-all : Example13
+  -- 14. twins
+  pub twins : Example14

@@ -16,7 +16,7 @@ use Rattle.state.specs.Step.{Step}
 use Rattle.state.specs.Check.{acceptance}
 use Rattle.state.specs.declared.State.{State}
 use Rattle.run.specs.Calls.{Call, add, load, store, remove, check, look, count, lowest, Lent, lent, moves, idle, after, events}
-use Rattle.run.specs.Demand3.{Latest, stateAfter, result, Done, Accepts, Moved, Unaltered, EachCheck}
+use Rattle.run.specs.Demand3.{Latest, stateAfter, result, Done, Accepts, Moves, Unaltered, EachCheck}
 use Rattle.run.proofs.Lists.{by-last, place-stays}
 use Rattle.run.proofs.Logs.{Log, noLog, follow}
 use Rattle.run.proofs.Balance.{Balance}
@@ -41,7 +41,7 @@ idle-done w tag lowest s m e = refl
 module _ (w : ℕ) (one : 1 ≤ w) (tag : List ℕ → Entry → List ℕ) (key : List ℕ) where
   -- nothing is held, or the store that the latest call left holds it
   Kept : List Lent → Log → Type 0
-  Kept run l = ((a : ℕ) → l .held a ≡ none) ⊎ ((x : Latest (Moved w tag key) run) × Holds w l (result w tag key (x .before) (x .call) .seen .store))
+  Kept run l = ((a : ℕ) → l .held a ≡ none) ⊎ ((x : Latest (Moves w tag key) run) × Holds w l (result w tag key (x .before) (x .call) .seen .store))
 
   record FineAt (run : List Lent) (s : State) (l : Log) : Type 0 where
     balance : Balance l
@@ -59,7 +59,7 @@ module _ (w : ℕ) (one : 1 ≤ w) (tag : List ℕ → Entry → List ℕ) (key 
     l = logOf w tag key run
 
     -- what the call is lent holds what is held
-    lent-fine : Unaltered w tag key (run ++ (x ∷ [])) → FineIf run s l → Moved w tag key run x → s .closed ≡ false → Fine w s l (x .bytes)
+    lent-fine : Unaltered w tag key (run ++ (x ∷ [])) → FineIf run s l → Moves w tag key run x → s .closed ≡ false → Fine w s l (x .bytes)
     unfolding Kept
     lent-fine u f d o = record { balance = f o .balance; faultless = f o .faultless; holds = go (f o .kept) }
       where
@@ -68,13 +68,13 @@ module _ (w : ℕ) (one : 1 ≤ w) (tag : List ℕ → Entry → List ℕ) (key 
         go (inr (y, h)) a e q = u run [] x refl d y a (all w tag key run o .fit .marked a ∙ ap there q) ∙ h a e q
 
     -- a call that does not move leaves all as it was
-    still : (Moved w tag key run x → ⊥) → FineIf run s l → FineIf (run ++ (x ∷ [])) s l
+    still : (Moves w tag key run x → ⊥) → FineIf run s l → FineIf (run ++ (x ∷ [])) s l
     unfolding Kept latest-keeps
     still n f o = record { balance = f o .balance; faultless = f o .faultless; kept = go (f o .kept) }
       where
         go : Kept run l → Kept (run ++ (x ∷ [])) l
         go (inl e) = inl e
-        go (inr (y, h)) = inr (latest-keeps (Moved w tag key) run x y n, h)
+        go (inr (y, h)) = inr (latest-keeps (Moves w tag key) run x y n, h)
 
   done-more : (run : List Lent) (x : Lent) → Unaltered w tag key (run ++ (x ∷ [])) → FineIf run (s run x) (l run x) → first (rowsOf w (s run x) (x .bytes) (x .call)) ≡ 0
       → (b : Bool) → moves (x .call) ≡ b
@@ -82,14 +82,14 @@ module _ (w : ℕ) (one : 1 ≤ w) (tag : List ℕ → Entry → List ℕ) (key 
   unfolding Kept latest-here
   done-more run x u f e true k o =
       let c = not-closed w (s run x) (x .bytes) (x .call) k e in
-      let d : Moved w tag key run x = (done-number w tag (s run x) (x .bytes) (x .call) e, k) in
+      let d : Moves w tag key run x = (done-number w tag (s run x) (x .bytes) (x .call) e, k) in
       let a = all w tag key run c in
       let r = whenDone w tag (s run x) (x .bytes) (x .call) in
       let y = done-fine w one tag (s run x) (l run x) (x .bytes) (stamps w tag key run) (run-hashed w tag key run c) (a .fit) (lent-fine run x u f d c) (clock-bounded w tag key one run) (x .call) e in
       record {
         balance = y .balance;
         faultless = y .faultless;
-        kept = inr (latest-here (Moved w tag key) run x d, subst (λ (q : Step). Holds w (follow (l run x) (r .events)) (q .seen .store)) (sym (step-done w tag (s run x) (x .bytes) (x .call) e)) (y .holds));
+        kept = inr (latest-here (Moves w tag key) run x d, subst (λ (q : Step). Holds w (follow (l run x) (r .events)) (q .seen .store)) (sym (step-done w tag (s run x) (x .bytes) (x .call) e)) (y .holds));
       }
   done-more run x u f e false k o =
       subst (λ (r : Step). FineIf (run ++ (x ∷ [])) (r .seen .state) (follow (l run x) (r .events))) (sym (idle-done w tag (x .call) (s run x) (x .bytes) k)) (still run x (λ d. false≢true (sym k ∙ d .1)) f) o

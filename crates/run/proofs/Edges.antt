@@ -19,7 +19,7 @@ use Rattle.state.specs.declared.Started.{Started}
 use Rattle.state.specs.declared.Verdict.the-variants.{Nothing}
 use Rattle.state.proofs.Starts.{start-done, start-refused}
 use Rattle.run.specs.Calls.{load, check, Lent, lent, moves, after, events}
-use Rattle.run.specs.Demand3.{Latest, stateAfter, result, eventsOf, Done, Accepts, LastSet, EachLoad, LastAccepts, Moved, Unaltered}
+use Rattle.run.specs.Demand3.{Latest, stateAfter, result, eventsOf, Done, Accepts, LastSet, EachLoad, LastAccepts, Moves, Unaltered}
 use Rattle.run.proofs.Lists.{by-last, place-in, no-place, last-place, place-stays}
 use Rattle.run.proofs.Steps.{rowsOf, whenDone, by-call, done-number}
 use Rattle.run.proofs.Runs.{kind, sets-told, state-last, events-last}
@@ -96,7 +96,7 @@ module _ (w : ℕ) (tag : List ℕ → Entry → List ℕ) (key : List ℕ) wher
       let c : startOf key .state .closed ≡ false = ap (λ (r : Started). r .state .closed) (start-done key h) in
       complete-at w one tag key [] m (λ before later x e d l a u. absurd (never before later x e l)) (done-number w tag (startOf key .state) m check (rw (c, eq-eqb (length m) (storeSize w) k)))
     where
-      never : (before later : List Lent) (x : Lent) → lent check m ∷ [] ≡ before ++ (x ∷ later) → Latest (Moved w tag key) before → ⊥
+      never : (before later : List Lent) (x : Lent) → lent check m ∷ [] ≡ before ++ (x ∷ later) → Latest (Moves w tag key) before → ⊥
       never before later x e l = go (last-place [] (lent check m) before x later e)
         where
           go : ((r : List Lent) × ([] ≡ before ++ (x ∷ r)) × (later ≡ r ++ (lent check m ∷ []))) ⊎ ((before ≡ []) × (x ≡ lent check m)) → ⊥
@@ -106,7 +106,7 @@ module _ (w : ℕ) (tag : List ℕ → Entry → List ℕ) (key : List ℕ) wher
   -- ---- a store that hands back what was left meets the second half's condition
 
   -- a call that does not move leaves the store as it was lent
-  still-lent : (before : List Lent) (x : Lent) → (Moved w tag key before x → ⊥) → result w tag key before x .seen .store ≡ x .bytes
+  still-lent : (before : List Lent) (x : Lent) → (Moves w tag key before x → ⊥) → result w tag key before x .seen .store ≡ x .bytes
   still-lent before x n =
       by-call w tag s (x .bytes) (λ (r : Step). r .seen .store ≡ x .bytes) (x .call) (λ e. go e (moves (x .call)) refl) (λ k e. refl)
     where
@@ -127,7 +127,7 @@ module _ (w : ℕ) (tag : List ℕ → Entry → List ℕ) (key : List ℕ) wher
       Back : List Lent → Type 0
       Back mid =
           (y : Lent) (later : List Lent) → run ≡ l .before ++ (l .call ∷ (mid ++ (y ∷ later)))
-          → ((p q : List Lent) (x : Lent) → mid ≡ p ++ (x ∷ q) → Moved w tag key (l .before ++ (l .call ∷ p)) x → ⊥) → y .bytes ≡ store
+          → ((p q : List Lent) (x : Lent) → mid ≡ p ++ (x ∷ q) → Moves w tag key (l .before ++ (l .call ∷ p)) x → ⊥) → y .bytes ≡ store
 
       back : (mid : List Lent) → Back mid
       back =

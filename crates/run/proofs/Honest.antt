@@ -16,7 +16,7 @@ use Rattle.state.specs.Sizes.{addresses, valueSize, storeSize, ceiling}
 use Rattle.state.specs.Marks.{used}
 use Rattle.state.specs.Cells.{Entry, valueAt, entryAt, writeCell, writeEntry}
 use Rattle.state.specs.Counts.{bit, times}
-use Rattle.state.specs.Step.{put, Step, withMarks, next, takeEntry, putEntry}
+use Rattle.state.specs.Step.{Step, withMarks, next, takeEntry, putEntry}
 use Rattle.state.specs.Moves.{added, loaded, stored, removed}
 use Rattle.state.specs.Check.{opening, putBelow, agrees, takeBelow, openBelow, acceptance}
 use Rattle.state.specs.declared.State.{State}

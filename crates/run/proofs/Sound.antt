@@ -16,7 +16,7 @@ use Rattle.state.specs.Counts.{times}
 use Rattle.state.specs.Start.{fresh, none, startOf}
 use Rattle.state.specs.Step.{Event, Step, shut}
 use Rattle.state.specs.Moves.{added, loaded, stored}
-use Rattle.state.specs.Check.{agrees, takes, puts, takeBelow, openBelow, acceptance, rejection}
+use Rattle.state.specs.Check.{agrees, takes, takeBelow, openBelow, acceptance, rejection}
 use Rattle.state.specs.declared.State.{State}
 use Rattle.state.specs.declared.Verdict.the-variants.{Accept, Reject, Nothing}
 use Rattle.state.proofs.Marks.{fresh-unused}

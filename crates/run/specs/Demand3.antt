@@ -132,13 +132,13 @@ module _ (w : ℕ) (tag : List ℕ → Entry → List ℕ) (key : List ℕ) wher
   -- ---- second half
 
   -- a call that is not refused, and no look, count or lowest free
-  abbrev pub Moved : List Lent → Lent → Type 0
-  Moved before x = Done before x × (moves (x .call) ≡ true)
+  abbrev pub Moves : List Lent → Lent → Type 0
+  Moves before x = Done before x × (moves (x .call) ≡ true)
 
   -- each cell in use reaches each such call as the latest such call before it left it; all other bytes may be any
   abbrev pub Unaltered : List Lent → Type 0
   Unaltered run =
-      (before later : List Lent) (x : Lent) → run ≡ before ++ (x ∷ later) → Moved before x → (l : Latest Moved before)
+      (before later : List Lent) (x : Lent) → run ≡ before ++ (x ∷ later) → Moves before x → (l : Latest Moves before)
       → (a : ℕ) → used (stateAfter before .marks) a ≡ true → entryAt w (x .bytes) a ≡ entryAt w (result (l .before) (l .call) .seen .store) a
 
   abbrev pub EachCheck : List Lent → Type 0

@@ -1,4 +1,4 @@
--- The hash of a multiset takes one entry more by its tag, and depends on how often each entry occurs alone: exclusive-ors can change places. Assumes nothing.
+-- The hash of a multiset takes one entry more by its tag, and depends only on how often each entry occurs: exclusive-ors can change places. Assumes nothing.
 use mathlib.Core.Path.{_≡_, refl, sym, ap, ap₂, _∙_}
 use mathlib.Core.Bool.{Bool, true, false, _&&_}
 use mathlib.Core.List.{List, [], _∷_, _++_, map, append-nil}

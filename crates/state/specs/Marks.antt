@@ -19,7 +19,7 @@ marked ws a = set ws (a / 64) (bitOr (getD ws (a / 64) 0) (2 ^ (a % 64)))
 unfoldable pub unmarked : List ℕ → ℕ → List ℕ
 unmarked ws a = set ws (a / 64) (bitAnd (getD ws (a / 64) 0) (2 ^ 64 - 1 - 2 ^ (a % 64)))
 
--- 01, Count: the number of set marks, here of those below n
+-- 01, Count: here of the addresses below n
 unfoldable pub countBelow : ℕ → List ℕ → ℕ
 countBelow zero ws = 0
 countBelow (suc n) ws = cond (used ws n) (countBelow n ws + 1) (countBelow n ws)

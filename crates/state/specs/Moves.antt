@@ -57,7 +57,7 @@ unfoldable pub call : List Row → State → List ℕ → List ℕ → Step → 
 call rows s m o x = done (first rows) x (step (seen (first rows) Nothing s m o) [])
 
 module _ (w : ℕ) (tag : List ℕ → Entry → List ℕ) where
-  -- Add: put; mark in use
+  -- Add: a put, and the mark set
   unfoldable pub added : State → List ℕ → ℕ → List ℕ → Step
   added s m a v =
       let e = next s a v in

@@ -38,6 +38,6 @@ emptyHash = record { tag = replicate tagSize 0; number = 0 }
 unfoldable pub withTag : Hash → List ℕ → Hash
 withTag h t = record { tag = xor (h .tag) t; number = (h .number + 1) % 2 ^ 32 }
 
--- are two hashes equal: when tags and numbers both are
+-- are two hashes equal
 unfoldable pub sameHash : Hash → Hash → Bool
 sameHash p q = same (p .tag) (q .tag) && eqb (p .number) (q .number)

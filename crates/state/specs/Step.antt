@@ -48,12 +48,12 @@ unfoldable pub next : State → ℕ → List ℕ → Entry
 next s a v = entry a v (s .clock + 1)
 
 module _ (tag : List ℕ → Entry → List ℕ) where
-  -- Take of the entry read: a stamp above the clock sets the fault mark; the entry is added to the take hash in either case
+  -- Take of the entry that was read
   unfoldable pub takeEntry : State → Entry → State
   takeEntry s e =
       record { key = s .key; put = s .put; take = withTag (s .take) (tag (s .key) e); clock = s .clock; fault = s .fault || ltb (s .clock) (e .stamp); closed = s .closed; marks = s .marks }
 
-  -- Put of an entry, whose stamp the clock becomes: it is added to the put hash
+  -- Put of an entry, whose stamp the clock becomes
   unfoldable pub putEntry : State → Entry → State
   putEntry s e =
       record { key = s .key; put = withTag (s .put) (tag (s .key) e); take = s .take; clock = e .stamp; fault = s .fault; closed = s .closed; marks = s .marks }

@@ -61,7 +61,7 @@ fn put(s: State, store: &mut [u8], a: usize, value: [u8; State::VALUE]) -> State
     put_entry(s, store, a, value, clock)
 }
 
-// Add: put; mark in use.
+// Add: a put, and the mark set.
 pub fn added(s: State, store: &mut [u8], a: usize, value: &[u8]) -> State
     requires { ⌜ (length (now store) ≡ storeSize width) × (a < addresses) × (length (now value) ≡ valueSize) × (s .clock < ceiling width) ⌝ }
     ensures { λ r. ⌜ seen 0 Nothing r (now (store .exit)) [] ≡ added width tag s (now (store .entry)) a (now (value .entry)) .seen ⌝ }

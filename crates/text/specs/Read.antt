@@ -1,7 +1,7 @@
 -- 01, "The bench program": the number or the byte that a word writes, found by a search. What the search finds is stated in Exact.antt.
 -- Assumes nothing.
 use mathlib.Core.Bool.{Bool, cond}
-use mathlib.Core.List.{List, []}
+use mathlib.Core.List.{List}
 use Prim.Native.Nat.{ℕ, zero, suc}
 use Rattle.octets.specs.Places.{same}
 use Rattle.text.specs.Text.{decimal, hex}

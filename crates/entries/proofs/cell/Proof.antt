@@ -1,10 +1,9 @@
 -- `entries::cell` meets its contract: the value is copied over the first bytes, and the stamp follows. Assumes nothing.
 use borrow.Author.Needs.{needs}
 use mathlib.Core.Path.{_≡_, refl, _∙_}
-use mathlib.Core.List.{List, [], _∷_, _++_}
-use Prim.Native.Nat.{ℕ}
+use mathlib.Core.List.{[], _∷_, _++_}
 use native.Mathlib.Omega.{arith}
-use lib.ListN.{length, drop, replicate}
+use lib.ListN.{length}
 use lib.Seq.{take-all}
 use mir.Syntax.{w16}
 use mir.Val.{Fits}

@@ -10,10 +10,10 @@ returns : tie.Need-returns
 returns c = pack-size _ _ (c .if1 .taken)
 
 returns-2 : tie.Need-returns-2
-returns-2 c = pack-refused _ _ _ (c .before .before .if1 .left) (c .before .fault .ensures) (c .if2 .taken)
+returns-2 c = pack-refused _ _ _ (c .before .before .if1 .left) (c .before .number-of .ensures) (c .if2 .taken)
 
 returns-3 : tie.Need-returns-3
-returns-3 c = ap (filled 0) (c .before .before .write .ensures) ∙ pack-done _ _ (c .before .before .before .before .before .before .if1 .left) (sym (c .before .before .before .before .before .fault .ensures) ∙ c .before .before .before .before .if2 .left)
+returns-3 c = ap (filled 0) (c .before .before .write .ensures) ∙ pack-done _ _ (c .before .before .before .before .before .before .if1 .left) (sym (c .before .before .before .before .before .number-of .ensures) ∙ c .before .before .before .before .if2 .left)
 
 pub pack-spec : {M : Type 1} → statement M
 pack-spec =

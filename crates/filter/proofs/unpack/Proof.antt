@@ -16,13 +16,13 @@ returns-2 c = c .refused2 .ensures ∙ unpack-spare _ (c .before .before .before
 
 returns-3 : tie.Need-returns-3
 returns-3 c =
-    c .refused3 .ensures ∙ unpack-refused _ _ (c .before .before .before .before .before .before .before .before .before .if1 .left) (sym (c .before .before .before .before .before .spare .ensures ∙ ap spareIn (c .before .before .before .before .before .before .before .copy .ensures)) ∙ c .before .before .before .before .if2 .left) (c .before .before .fault .ensures ∙ ap (λ (r : FilterRecord). first (filterRows r)) (c .before .before .before .read .ensures ∙ ap filterIn (c .before .before .before .before .before .before .before .copy .ensures))) (c .before .if3 .taken)
+    c .refused3 .ensures ∙ unpack-refused _ _ (c .before .before .before .before .before .before .before .before .before .if1 .left) (sym (c .before .before .before .before .before .spare .ensures ∙ ap spareIn (c .before .before .before .before .before .before .before .copy .ensures)) ∙ c .before .before .before .before .if2 .left) (c .before .before .number-of .ensures ∙ ap (λ (r : FilterRecord). first (filterRows r)) (c .before .before .before .read .ensures ∙ ap filterIn (c .before .before .before .before .before .before .before .copy .ensures))) (c .before .if3 .taken)
 
 returns-4 : tie.Need-returns-4
 returns-4 c =
     let e = c .before .before .read .ensures ∙ ap filterIn (c .before .before .before .before .before .before .copy .ensures) in
     ap (unpacked 0) e
-    ∙ unpack-done _ (c .before .before .before .before .before .before .before .before .if1 .left) (sym (c .before .before .before .before .spare .ensures ∙ ap spareIn (c .before .before .before .before .before .before .copy .ensures)) ∙ c .before .before .before .if2 .left) (ap (λ (r : FilterRecord). first (filterRows r)) (sym e) ∙ sym (c .before .fault .ensures) ∙ c .if3 .left)
+    ∙ unpack-done _ (c .before .before .before .before .before .before .before .before .if1 .left) (sym (c .before .before .before .before .spare .ensures ∙ ap spareIn (c .before .before .before .before .before .before .copy .ensures)) ∙ c .before .before .before .if2 .left) (ap (λ (r : FilterRecord). first (filterRows r)) (sym e) ∙ sym (c .before .number-of .ensures) ∙ c .if3 .left)
 
 pub unpack-spec : {M : Type 1} → statement M
 unpack-spec =

@@ -5,7 +5,7 @@ use mathlib.Core.Path.{_≡_, _∙_}
 use native.Mathlib.Omega.{arith}
 use Prim.Native.Nat.{_≤_, _-_}
 use mathlib.Core.List.{_++_}
-use lib.ListN.{length, set, take, drop, length-set}
+use lib.ListN.{length, take, drop, length-set}
 use Rattle.lent.proofs.Copied.{copied-more, copied-full, copied-short}
 use Rattle.lent.proofs.copy.Statement.{statement}
 use Rattle.lent.proofs.copy.Tie as tie
