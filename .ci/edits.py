@@ -10,7 +10,8 @@ break; of a wrong definition also the declaration there:
     new: TEXT
 
 The toolchain tells only that the whole was refused. Here everything under `fails:` must have an error of its own in the log: not one that
-merely says that something it rests on was not admitted. (A function whose proof the toolchain makes has no such file; its failure is told
+merely says that something it rests on was not admitted, nor one that a right program of the edit's shape would have too, since the proof names
+what is no longer there. (A function whose proof the toolchain makes has no such file; its failure is told
 under the name that the file would have.) Where there are several in a file, each must have an error that is its own doing:
 
 - Of wrong functions each changes the body of the very function whose proof it names, no two the same function, and no other file has an error
@@ -27,6 +28,7 @@ import sys
 
 TOP = pathlib.Path(__file__).resolve().parent.parent
 ONLY_RESTS = "was not admitted (it has holes or undetermined implicits, or was rejected), so this cannot be checked"
+ONLY_SHAPE = re.compile(r"has no field|that can be named from here")
 
 
 @dataclasses.dataclass
@@ -39,20 +41,24 @@ class Wrong:
 
 
 def wrongs(edit):
-    """What an edit file has."""
+    """What an edit file has. A line that is none of the form ends it with a nameless one."""
     found = []
     file = ""
+    begun = False
     for line in edit.read_text().splitlines():
         key, _, value = line.partition(": ")
-        if key == "wrong":
+        if not line or line.startswith("# "):
+            begun = begun and bool(line)
+        elif key == "wrong":
             found.append(Wrong(value))
+            begun = True
+        elif not begun or key not in ("fails", "file", "old", "new"):
+            return found + [Wrong("")]
+        elif key == "fails":
+            found[-1].fails = value
         elif key == "file":
             file = value
-        elif key == "fails" and found:
-            found[-1].fails = value
         elif key == "old":
-            if not found:
-                found.append(Wrong(""))
             found[-1].changes.append((file, value))
     return found
 
@@ -67,7 +73,7 @@ def own_errors(where):
     found = set()
     for line in (where / ".log").read_text().splitlines():
         error = re.match(r"(\S+?):\d+:\d+: error: `([^`]*)`", line) or re.match(r"fn \S+: no proof: expected `([^`]*)` in (\S+);", line)
-        if error and ONLY_RESTS not in line:
+        if error and ONLY_RESTS not in line and not ONLY_SHAPE.search(line):
             file, name = (error[1], error[2]) if ": error: " in line else (error[2], error[1])
             file = file.removeprefix(f"{where}/")
             found |= {file, f"{file} {name}"}
@@ -75,11 +81,13 @@ def own_errors(where):
 
 
 def proof_of(crate, file, text):
-    """The proof of the function of a source file whose body has a text."""
-    name = re.findall(r"\bfn (\w+)", (crate / file).read_text().split(text)[0])
+    """The proof of the function of a source file whose body alone has a text."""
     module = pathlib.Path(file).stem
     folder = "proofs" if module in ("lib", "main") else f"proofs/{module}"
-    return f"{folder}/{name[-1]}/Proof.antt" if name else None
+    source = (crate / file).read_text()
+    bodies = re.findall(r"(?ms)^( *)[^\n]*\bfn (\w+)\b.*?^\1\{\n(.*?)^\1\}$", source)
+    names = [name for _, name, body in bodies if text in body]
+    return f"{folder}/{names[0]}/Proof.antt" if len(names) == 1 and source.count(text) == 1 else None
 
 
 def apart(crate, found, failing):
@@ -87,7 +95,7 @@ def apart(crate, found, failing):
     named = [one.fails for one in found]
     said = [f"two of them name {name}" for name in sorted(set(named)) if named.count(name) > 1]
     if not any(file.startswith("src/") for one in found for file, _ in one.changes):
-        return said + [f"{one.label}: it names no declaration" for one in found if " " not in one.fails]
+        return said
     said += [f"{name} has an error of its own, and none of them names it" for name in sorted(failing - set(named)) if " " not in name]
     return said + [
         f"{one.label}: {file} is changed outside of the function that {one.fails} proves"
@@ -106,7 +114,8 @@ def faults(crate, edit):
     if not found or not all(one.label and one.fails and one.changes for one in found):
         return ["it lacks a label, what must fail, or a change"]
     failing = own_errors(where)
-    said = [f"{one.label}: no error of its own in {one.fails}, but in {sorted(failing)}" for one in found if one.fails not in failing]
+    said = [f"{one.label}: it names no declaration" for one in found if " " not in one.fails and not one.changes[0][0].startswith("src/")]
+    said += [f"{one.label}: no error of its own in {one.fails}, but in {sorted(failing)}" for one in found if one.fails not in failing]
     return said + (apart(crate, found, failing) if len(found) > 1 else [])
 
 
@@ -119,6 +128,8 @@ def main():
         wrong += [f"{crate.name}: two are called {label}" for label in sorted(set(here)) if here.count(label) > 1]
         for edit in sorted((crate / "must-fail").glob("*.edit")):
             wrong += [f"{crate.name}/{edit.name}: {said}" for said in faults(crate, edit)]
+    if not any(ONLY_RESTS in log.read_text() for log in TOP.glob("target/must-fail/*/*/.log")):
+        wrong.append("no log says of anything that it rests on what was not admitted: the toolchain must say it in other words")
     print("\n".join(wrong) if wrong else f"{count} wrong programs and definitions, each refused where it must be")
     return 1 if wrong or not count else 0
 

@@ -1,4 +1,4 @@
-"""Holds docs/ to the repository: every statement and every must-fail edit that a page names is there.
+"""Holds docs/ to the repository: every statement and every must-fail edit that a page names is there, and every edit is named.
 
 A statement is named as `crate/specs/File.antt` `name`, where further names of the same file may follow, each in its own backquotes;
 a must-fail edit as `crate!label`, by the label of one of the crate's wrong programs. Prints what is missing; exit status 1 where something is, or where a page names nothing.
@@ -21,6 +21,7 @@ def named(text, name):
     return re.search(rf"(?m)^\s*(?:pub\s+|abbrev\s+|unfoldable\s+|const\s+|extern\s+.C.\s+|fn\s+|struct\s+|enum\s+|record\s+|data\s+)*{word}(?![\w·-])", text)
 
 
+named_edits = set()
 for page in pages:
     here = 0
     for line in page.read_text().splitlines():
@@ -29,9 +30,10 @@ for page in pages:
             edit = re.fullmatch(r"(\w+)!([\w-]+)", piece)
             if edit:
                 here += 1
+                named_edits.add(piece)
                 if edit[2] not in labels(top / "crates" / edit[1]):
                     missing.append(f"{page.name}: no edit {piece}")
-            elif re.fullmatch(r"[\w./-]+\.(antt|rt|py|sh|md|txt)", piece):
+            elif re.fullmatch(r"[\w./-]+\.(antt|rt|py|sh|md|txt)|crates/[\w./-]+", piece):
                 path = top / "crates" / piece if (top / "crates" / piece).exists() else top / piece
                 here += 1
                 file = path.read_text() if path.exists() else None
@@ -44,6 +46,9 @@ for page in pages:
     if not here:
         missing.append(f"{page.name} names nothing")
     seen += here
+
+for crate in sorted((top / "crates").iterdir()):
+    missing += [f"no page names the edit {crate.name}!{label}" for label in labels(crate) if f"{crate.name}!{label}" not in named_edits]
 
 print("\n".join(missing) if missing else f"{seen} names, all there")
 sys.exit(1 if missing or not seen else 0)

@@ -1,4 +1,4 @@
--- 01, The multiset hash: the tag of an entry.
+-- 01, "The multiset hash": the tag of an entry.
 -- Assumes nothing.
 use mathlib.Core.List.{List}
 use Prim.Native.Nat.{ℕ}

@@ -41,7 +41,7 @@ hmac key text =
     let step6 = step5 ++ step4 in
     sha256 step6
 
--- 01, number 10: a size above the bounds, or output not 32
+-- 01, number 10: key or message too long, or an output of another size
 abbrev pub macRows : List ℕ → List ℕ → List ℕ → List Row
 macRows key text out = when 10 (ltb 1024 (length key) || ltb 4096 (length text) || not32 out) ∷ []
 

@@ -40,7 +40,7 @@ moves (look a) = false
 moves count = false
 moves lowest = false
 
--- 01: look, count and lowest free change nothing. What they answer is in their contracts, and no part of a run
+-- 01, Look, Count, Lowest free: they change nothing. What they answer is in their contracts, and no part of a run
 abbrev pub idle : State → List ℕ → Step
 idle s m = record { seen = seen 0 Nothing s m []; events = [] }
 

@@ -52,7 +52,7 @@ sha256 m = hashBytes (absorbed H0 (padded (length m) m))
 unfoldable pub finished : List ℕ → ℕ → List ℕ → List ℕ
 finished h before rest = absorbed h (padded (64 * before + length rest) rest)
 
--- 01, number 10: a size above the bounds, or output not 32
+-- 01, number 10: the message too long, or an output of another size
 abbrev pub not32 : List ℕ → Bool
 not32 out = not (eqb (length out) 32)
 

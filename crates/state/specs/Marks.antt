@@ -1,4 +1,4 @@
--- 01, The trusted state: its marks. That of address a is bit a % 64 of word a / 64, the lowest bit first.
+-- 01, "The trusted state and the moves": the marks. That of address a is bit a % 64 of word a / 64, the lowest bit first.
 -- Assumes nothing.
 use mathlib.Core.Bool.{Bool, not, cond}
 use mathlib.Core.List.{List}

@@ -1,4 +1,4 @@
--- 01: add, load, store and remove; look; lowest free. Each call's refusals are its rows of the numbers' table, in the table's order.
+-- 01, "The trusted state and the moves": add, load, store and remove; look; lowest free. Each call's refusals are its rows of the numbers' table, in the table's order.
 -- Over the stamp's width w and the tag. Assumes nothing.
 use mathlib.Core.Bool.{not}
 use mathlib.Core.List.{List, [], _∷_}

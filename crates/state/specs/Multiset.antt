@@ -1,4 +1,4 @@
--- 01, The multiset hash: the MSet-XOR hash of the source (its definition 4.4) with no nonce.
+-- 01, "The multiset hash": the MSet-XOR hash of the source (its definition 4.4) with no nonce.
 -- Assumes nothing.
 use mathlib.Core.Path.{_≡_}
 use mathlib.Core.Bool.{Bool, _&&_}

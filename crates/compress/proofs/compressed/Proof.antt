@@ -4,6 +4,9 @@ use Rattle.compress.specs.Compress.{compress}
 use Rattle.compress.proofs.compressed.Statement.{statement}
 use Rattle.compress.proofs.compressed.Tie as tie
 
-pub compressed-spec : {M : Type 1} → statement M
+returns : tie.Need-returns
 unfolding compress
-compressed-spec = tie.close (tie.spec (λ c κs. search needs) (λ c κs. search needs) (λ c κs. search needs) (λ c. cc))
+returns c = cc
+
+pub compressed-spec : {M : Type 1} → statement M
+compressed-spec = tie.close (tie.spec (λ c κs. search needs) (λ c κs. search needs) (λ c κs. search needs) returns)
