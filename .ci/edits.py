@@ -10,9 +10,9 @@ break; of a wrong definition also the declaration there:
     new: TEXT
 
 The toolchain tells only that the whole was refused. Here everything under `fails:` must have an error of its own in the log: not one that
-merely says that something it rests on was not admitted, nor one that a right program of the edit's shape would have too, since the proof names
-what is no longer there. (A function whose proof the toolchain makes has no such file; its failure is told
-under the name that the file would have.) Where there are several in a file, each must have an error that is its own doing:
+merely says that something it rests on was not admitted, nor one that a right program of the same shape would have too, because the proof names
+what is no longer there. (A function whose proof the toolchain makes has no such file; its failure is told under the name that the file would
+have.) Where there are several in a file, each must have an error that is its own doing:
 
 - Of wrong functions each changes the body of the very function whose proof it names, no two the same function, and no other file has an error
   of its own. A function's proof rests on its own body and on the contracts of what it calls, so the other wrong bodies have no part in it.
