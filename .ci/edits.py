@@ -46,7 +46,8 @@ def wrongs(edit):
     file = ""
     begun = False
     for line in edit.read_text().splitlines():
-        key, _, value = line.partition(": ")
+        key, _, value = line.partition(":")
+        value = value.removeprefix(" ")
         if not line or line.startswith("# "):
             begun = begun and bool(line)
         elif key == "wrong":
