@@ -9,21 +9,16 @@ use native.Mathlib.Omega.{arith}
 use lib.ListN.{length, length-append}
 use borrow.Author.Tests.{eq-eqb, ne-eqb, not-true, not-false}
 use Rattle.state.specs.Sizes.{addresses}
-use Rattle.state.specs.Marks.{used, countBelow, countOf, firstFrom, lowestFree}
-use Rattle.state.specs.Check.{inUse}
+use Rattle.state.specs.Marks.{used, usedBelow, countBelow, countOf, firstFrom, lowestFree}
 use Rattle.state.specs.Moves.{lowestOf, freeNumber}
 use Rattle.state.specs.declared.Free.the-variants.{At, Full}
 use Rattle.marks.specs.Next.{nextUsed}
 use Rattle.marks.specs.Sets.{Distinct, Counted, Lowest, AllUsed}
 
--- the addresses in use below n
-abbrev pub usedBelow : List ℕ → ℕ → List ℕ
-usedBelow ws n = inUse (λ a. a) ws n
-
 -- ---- the count
 
 count-length : (ws : List ℕ) (n : ℕ) → countBelow n ws ≡ length (usedBelow ws n)
-unfolding countBelow inUse
+unfolding countBelow usedBelow
 count-length ws zero = refl
 count-length ws (suc n) = step (used ws n) (count-length ws n)
   where
@@ -32,7 +27,7 @@ count-length ws (suc n) = step (used ws n) (count-length ws n)
     step false e = rw (length-append, e) (omega arith)
 
 pub in-use-only : (ws : List ℕ) (n a : ℕ) → List·Memᴰ a (usedBelow ws n) → (a < n) × (used ws a ≡ true)
-unfolding inUse
+unfolding usedBelow
 in-use-only ws zero a m = absurd (List·Memᴰ·not-nil m)
 in-use-only ws (suc n) a m =
     ⊎-elim (λ l. let h = in-use-only ws n a l in (omega (arith, h .0), h .1)) (last (used ws n) refl) (List·Memᴰ·append-cases (usedBelow ws n) m)
@@ -42,7 +37,7 @@ in-use-only ws (suc n) a m =
     last false e l = absurd (List·Memᴰ·not-nil l)
 
 pub in-use-all : (ws : List ℕ) (n a : ℕ) → a < n → used ws a ≡ true → List·Memᴰ a (usedBelow ws n)
-unfolding inUse
+unfolding usedBelow
 in-use-all ws zero a h e = absurd (not-suc-le-zero h)
 in-use-all ws (suc n) a h e =
     ⊎-elim (λ q. Memᴰ·append-right (usedBelow ws n) (last q)) (λ l. Memᴰ·append-left _ (in-use-all ws n a l e)) (eq-or-lt-of-le (le-of-suc-le-suc h))
@@ -56,7 +51,7 @@ distinct-last (y ∷ xs) x d n =
     (λ m. ⊎-elim (d .0) (λ l. n (List·Memᴰ·head (sym (List·Memᴰ·eq-of-singleton l)))) (List·Memᴰ·append-cases xs m), distinct-last xs x (d .1) (λ m. n (List·Memᴰ·tail m)))
 
 in-use-once : (ws : List ℕ) (n : ℕ) → Distinct (usedBelow ws n)
-unfolding inUse
+unfolding usedBelow
 in-use-once ws zero = tt
 in-use-once ws (suc n) = step (used ws n) (in-use-once ws n)
   where

@@ -17,7 +17,7 @@ use Rattle.state.specs.Marks.{lowestFree}
 use Rattle.state.specs.Start.{none, startRows, startOf}
 use Rattle.state.specs.Step.{seen, Step}
 use Rattle.state.specs.Moves.{call, added, loaded, stored, removed, addOf, loadOf, storeOf, removeOf, lookOf, lowestOf, freeNumber, freeAddress, addRows, useRows, removeRows, lookRows, lowestRows}
-use Rattle.state.specs.Check.{verdictNumber, checkRows, agrees, takeBelow, acceptance, rejection, checkOf}
+use Rattle.state.specs.Check.{verdictNumber, checkRows, agrees, takeAll, acceptance, rejection, checkOf}
 use Rattle.state.specs.declared.State.{State}
 use Rattle.state.specs.declared.Verdict.the-variants.{Nothing}
 use Rattle.state.specs.declared.Free.{Free}
@@ -108,11 +108,11 @@ numbers = record {
   load = λ s m a o. call-exactly (useRows width s m a o) s m o (loaded width tag s m a) refl;
   store = λ s m a v. call-exactly (useRows width s m a v) s m [] (stored width tag s m a v) refl;
   remove = λ s m a. call-exactly (removeRows width s m a) s m [] (removed width tag s m a) refl;
-  check = λ s m. call-exactly (checkRows width s m) s m [] (cond (agrees (takeBelow width tag s m addresses)) (acceptance width tag s m) (rejection width tag s m)) (check-number (agrees (takeBelow width tag s m addresses)) (acceptance width tag s m) (rejection width tag s m) refl refl);
+  check = λ s m. call-exactly (checkRows width s m) s m [] (cond (agrees (takeAll width tag s m)) (acceptance width tag s m) (rejection width tag s m)) (check-number (agrees (takeAll width tag s m)) (acceptance width tag s m) (rejection width tag s m) refl refl);
   check-verdict = λ s m.
       let x = acceptance width tag s m in
       let y = rejection width tag s m in
-      let b = agrees (takeBelow width tag s m addresses) in
+      let b = agrees (takeAll width tag s m) in
       check-verdict (first (checkRows width s m)) s m (cond b x y) (check-number b x y refl refl) (said b x y refl refl);
   look-size = look-size;
   look = look-exactly;

@@ -8,12 +8,12 @@ use mathlib.Core.Logic.{_⊎_, _↔_}
 use Prim.Native.Nat.{ℕ, _<_}
 use Rattle.refusal.specs.Refusal.{Given}
 use Rattle.constants.specs.Constants.{KRule, H0Rule}
-use Rattle.state.specs.Sizes.{width, addresses}
+use Rattle.state.specs.Sizes.{width}
 use Rattle.state.specs.Cells.{Entry}
 use Rattle.state.specs.Multiset.{message, Fits, hash, emptyHash, withTag, sameHash}
 use Rattle.state.specs.Counts.{times}
 use Rattle.state.specs.Step.{takeEntry}
-use Rattle.state.specs.Check.{checkRows, takeBelow, checkOf}
+use Rattle.state.specs.Check.{checkRows, takeAll, checkOf}
 use Rattle.state.specs.declared.State.{State}
 use Rattle.state.specs.declared.Hash.{Hash}
 use Rattle.state.specs.declared.Verdict.the-variants.{Accept}
@@ -40,7 +40,7 @@ pub record SecondDemand : Type 0 where
   -- a check that is done accepts exactly when after its takes both hashes agree and no fault is marked
   pub check-accepts : (s : State) (m : List ℕ) → Given 0 (checkRows width s m)
       → (checkOf width tag s m .seen .verdict ≡ Accept)
-      ↔ ((takeBelow width tag s m addresses .put ≡ takeBelow width tag s m addresses .take) × (takeBelow width tag s m addresses .fault ≡ false))
+      ↔ ((takeAll width tag s m .put ≡ takeAll width tag s m .take) × (takeAll width tag s m .fault ≡ false))
   -- a take leaves a fault marked exactly when one was, or its stamp is ahead of the clock
   pub fault-marked : (s : State) (e : Entry) → (takeEntry tag s e .fault ≡ true) ↔ ((s .fault ≡ true) ⊎ (s .clock < e .stamp))
   -- of whole runs: a check that is done accepts exactly when the hashes of its period agree and no stamp in it was ahead of the clock of its time; at any

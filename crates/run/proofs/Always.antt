@@ -14,10 +14,10 @@ use Rattle.state.specs.Counts.{times}
 use Rattle.state.specs.Start.{fresh, none}
 use Rattle.state.specs.Step.{Step, withMarks, shut, next, takeEntry, putEntry}
 use Rattle.state.specs.Moves.{added, loaded, stored, removed}
-use Rattle.state.specs.Check.{agrees, takeBelow, acceptance, rejection}
+use Rattle.state.specs.Check.{agrees, takeAll, acceptance, rejection}
 use Rattle.state.specs.declared.State.{State}
 use Rattle.state.specs.declared.Verdict.the-variants.{Nothing}
-use Rattle.state.proofs.Guards.{opens-below}
+use Rattle.state.proofs.Guards.{opens}
 use Rattle.run.specs.Calls.{Call, add, load, store, remove, check, look, count, lowest, Lent, moves, step, after, events}
 use Rattle.run.specs.Demand3.{stateAfter}
 use Rattle.run.proofs.Lists.{by-last}
@@ -85,8 +85,8 @@ module _ (w : ℕ) (tag : List ℕ → Entry → List ℕ) (s : State) (m : List
       go (store a v) = exchange a v
       go (remove a) = stamps-move (takeEntry tag s (entryAt w m a)) _ (takeL l (entryAt w m a)) _ refl refl (take-stamps tag s l (entryAt w m a) h)
       go check =
-          by-cond (λ (r : Step). Stamps (r .seen .state) (follow l (r .events))) (agrees (takeBelow w tag s m addresses))
-          (λ k. subst (Stamps _) (sym (opened-log w s m l)) (open-stamps w s m tag addresses))
+          by-cond (λ (r : Step). Stamps (r .seen .state) (follow l (r .events))) (agrees (takeAll w tag s m))
+          (λ k. subst (Stamps _) (sym (opened-log w s m l)) (open-stamps w s m tag))
           (λ k. stamps-move s _ l _ refl (ap (λ (x : Log). x .puts) (taken-log w s m l) ∙ taken-puts w s m l addresses) h)
       go (look a) = h
       go count = h
@@ -106,8 +106,8 @@ module _ (w : ℕ) (tag : List ℕ → Entry → List ℕ) (s : State) (m : List
       go (store a v) e = raised (use-ready w s m a v e .1 .time)
       go (remove a) e = h
       go check e =
-          by-cond (λ (r : Step). r .seen .state .clock ≤ ceiling w) (agrees (takeBelow w tag s m addresses))
-          (λ k. omega (arith, opens-below w tag s m addresses .clock, ceiling-one w one))
+          by-cond (λ (r : Step). r .seen .state .clock ≤ ceiling w) (agrees (takeAll w tag s m))
+          (λ k. omega (arith, opens w tag s m .clock, ceiling-one w one))
           (λ k. h)
       go (look a) e = h
       go count e = h

@@ -14,7 +14,7 @@ use Rattle.state.specs.Cells.{Entry}
 use Rattle.state.specs.Multiset.{hash}
 use Rattle.state.specs.Start.{fresh}
 use Rattle.state.specs.Step.{Event, took, put, accepted, withMarks, takeEntry, putEntry}
-use Rattle.state.specs.Check.{checkRows, takes, takeBelow}
+use Rattle.state.specs.Check.{checkRows, takes, takeAll}
 use Rattle.state.specs.declared.State.{State}
 use Rattle.state.proofs.Ready.{check-ready}
 use Rattle.state.proofs.Guards.{accepts-tells, equal-accepts}
@@ -121,5 +121,5 @@ check-exact w tag key run m d period since = (
     all = eventsOf w tag key run ++ takes w s m
 
     -- the state after the check's takes
-    h : Tells tag key (takeBelow w tag s m addresses) all period since
-    h = like-tells tag key (takeBelow w tag s m addresses) all period since (subst (λ (x : State). Like x (made tag key all)) (sym (taken-told tag w s m)) (like-made tag key s (eventsOf w tag key run) (takes w s m) (run-told w tag key run (check-ready w s m e .0))))
+    h : Tells tag key (takeAll w tag s m) all period since
+    h = like-tells tag key (takeAll w tag s m) all period since (subst (λ (x : State). Like x (made tag key all)) (sym (taken-told tag w s m)) (like-made tag key s (eventsOf w tag key run) (takes w s m) (run-told w tag key run (check-ready w s m e .0))))

@@ -18,10 +18,11 @@ use Rattle.state.specs.Cells.{Entry, valueAt, entryAt, writeCell, writeEntry}
 use Rattle.state.specs.Counts.{bit, times}
 use Rattle.state.specs.Step.{Step, withMarks, next, takeEntry, putEntry}
 use Rattle.state.specs.Moves.{added, loaded, stored, removed}
-use Rattle.state.specs.Check.{opening, putBelow, agrees, takeBelow, openBelow, acceptance}
+use Rattle.state.specs.Check.{opening, agrees, writeAll, takeAll, putAll, acceptance}
 use Rattle.state.specs.declared.State.{State}
 use Rattle.state.proofs.Cells.{value-length, write-length, entry-other, entry-written}
-use Rattle.state.proofs.Guards.{opens-below}
+use Rattle.state.proofs.Guards.{opens}
+use Rattle.state.proofs.Walks.{putBelow, write-all, takeBelow, take-all}
 use Rattle.state.proofs.Marks.{used-below}
 use Rattle.state.proofs.Multiset.{sameEntry-refl, equal-sameHash, same-counts}
 use Rattle.run.specs.Calls.{Call, add, load, store, remove, check, look, count, lowest}
@@ -106,15 +107,15 @@ module _ (w : ℕ) (one : 1 ≤ w) (tag : List ℕ → Entry → List ℕ) (s : 
       go true u = taken-gone w s m l addresses a (used-below (s .marks) a (fit .sixteen) u) u
       go false u = taken-none w s m l addresses a (free s l a fit u)
 
-  pub agreed : agrees (takeBelow w tag s m addresses) ≡ true
+  pub agreed : agrees (takeAll w tag s m) ≡ true
   unfolding agrees
   agreed =
-      let h = taken-hashed w s m tag l hashed addresses in
+      let h = subst (λ (x : State). Hashed tag x (takenL w s m l addresses)) (sym (take-all w tag s m)) (taken-hashed w s m tag l hashed addresses) in
       let k = takenL w s m l addresses in
       let even : (c : Entry) → times c (k .puts) ≡ times c (k .takes) =
       λ c. let z : heldTimes (k .held (c .address)) c ≡ 0 = ap (λ (o : Option Entry). heldTimes o c) (taken-all (c .address)) in omega (arith, taken-balance addresses c) in
-      let t = takeBelow w tag s m addresses in
-      rw (equal-sameHash (t .put) (t .take) (h .put ∙ same-counts (tag (t .key)) (k .puts) (k .takes) even ∙ sym (h .take)), taken-faultless addresses)
+      let t = takeAll w tag s m in
+      rw (equal-sameHash (t .put) (t .take) (h .put ∙ same-counts (tag (t .key)) (k .puts) (k .takes) even ∙ sym (h .take)), ap (λ (x : State). x .fault) (take-all w tag s m) ∙ taken-faultless addresses)
 
   -- ---- what each call leaves
 
@@ -205,27 +206,27 @@ module _ (w : ℕ) (one : 1 ≤ w) (tag : List ℕ → Entry → List ℕ) (s : 
               (λ v. entry-other w x n (valueAt w m n) 1 h (below-length n (omega arith)) (opening-size n h) a (λ q. omega arith) ∙ ih k u)
               (λ v. ih k u)
 
-      opened-holds : Holds w (openL w s m addresses) (putBelow w (s .marks) m addresses)
+      opened-holds : Holds w (openL w s m addresses) (writeAll w s m)
       opened-holds a c e = go (used (s .marks) a) refl
         where
           held : openL w s m addresses .held a ≡ cond (used (s .marks) a) (some (opening w m a)) none
           held = opened-held w s m (fit .sixteen) a
 
-          go : (b : Bool) → used (s .marks) a ≡ b → entryAt w (putBelow w (s .marks) m addresses) a ≡ c
+          go : (b : Bool) → used (s .marks) a ≡ b → entryAt w (writeAll w s m) a ≡ c
           go true u =
               let z : some (opening w m a) ≡ some c = sym (held ∙ rw u) ∙ e in
               let y : opening w m a ≡ c = cc in
-              below-holds addresses a (omega arith) (used-below (s .marks) a (fit .sixteen) u) u ∙ y
+              ap (λ (x : List ℕ). entryAt w x a) (write-all w s m) ∙ below-holds addresses a (omega arith) (used-below (s .marks) a (fit .sixteen) u) u ∙ y
           go false u = let z : none ≡ some c = sym (held ∙ rw u) ∙ e in absurd (false≢true (ap there z))
 
     check-fine : first (rowsOf w s m check) ≡ 0
         → Fine w (whenDone w tag s m check .seen .state) (follow l (whenDone w tag s m check .events)) (whenDone w tag s m check .seen .store)
     unfolding acceptance
     check-fine e =
-        by-cond (λ (r : Step). Fine w (r .seen .state) (follow l (r .events)) (r .seen .store)) (agrees (takeBelow w tag s m addresses))
+        by-cond (λ (r : Step). Fine w (r .seen .state) (follow l (r .events)) (r .seen .store)) (agrees (takeAll w tag s m))
         (λ k.
-        subst (λ (g : Log). Fine w (openBelow w tag s m addresses) g (putBelow w (s .marks) m addresses)) (sym (opened-log w s m l))
-        (record { balance = open-balance w s m addresses; faultless = opens-below w tag s m addresses .fault ∙ fine .faultless; holds = opened-holds (check-ready w s m e .1) }))
+        subst (λ (g : Log). Fine w (putAll w tag s m) g (writeAll w s m)) (sym (opened-log w s m l))
+        (record { balance = open-balance w s m addresses; faultless = opens w tag s m .fault ∙ fine .faultless; holds = opened-holds (check-ready w s m e .1) }))
         (λ k. absurd (false≢true (sym k ∙ agreed)))
 
     pub done-fine : (c : Call) → first (rowsOf w s m c) ≡ 0 → Fine w (whenDone w tag s m c .seen .state) (follow l (whenDone w tag s m c .events)) (whenDone w tag s m c .seen .store)

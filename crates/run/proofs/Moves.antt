@@ -14,9 +14,9 @@ use Rattle.state.specs.Marks.{used, marked, unmarked}
 use Rattle.state.specs.Cells.{Entry, valueAt, entryAt}
 use Rattle.state.specs.Step.{withMarks, next, takeEntry, putEntry}
 use Rattle.state.specs.Moves.{addRows, removeRows, added, removed}
-use Rattle.state.specs.Check.{opening, takeBelow, openBelow}
+use Rattle.state.specs.Check.{opening, takeAll, putAll}
 use Rattle.state.specs.declared.State.{State}
-use Rattle.state.proofs.Guards.{opens-below}
+use Rattle.state.proofs.Guards.{opens}
 use Rattle.state.proofs.Marks.{used-marked, used-unmarked, length-marked, length-unmarked, used-below}
 use Rattle.run.proofs.Logs.{Log, upd, putL, takeL, noted, follow}
 use Rattle.run.proofs.Balance.{upd-same, upd-other, upd-here}
@@ -195,9 +195,9 @@ module _ (w : ℕ) (tag : List ℕ → Entry → List ℕ) (s : State) (m : List
           rw (← y) (v a (entryAt w m a) (right a (used-below (s .marks) a (x .fit .sixteen) u) u))
       go false u = let z : none ≡ some e = sym (opened-held w s m (x .fit .sixteen) a ∙ rw u) ∙ h in absurd (false≢true (ap there z))
 
-  pub accepted-all : takeBelow w tag s m addresses .fault ≡ false → All (openBelow w tag s m addresses) (openL w s m addresses) Set (Differs w s m l ⊎ C) R
+  pub accepted-all : takeAll w tag s m .fault ≡ false → All (putAll w tag s m) (openL w s m addresses) Set (Differs w s m l ⊎ C) R
   accepted-all e =
-      let o = opens-below w tag s m addresses in
+      let o = opens w tag s m in
       record {
         fit =
             record {
@@ -207,10 +207,10 @@ module _ (w : ℕ) (tag : List ℕ → Entry → List ℕ) (s : State) (m : List
         status = go (x .status);
       }
     where
-      told : Differs w s m l ⊎ ((Vals l Set × R) × Right w s m l addresses) → (Differs w s m l ⊎ C) ⊎ Status (openBelow w tag s m addresses) (openL w s m addresses) (Vals (openL w s m addresses) Set × R)
+      told : Differs w s m l ⊎ ((Vals l Set × R) × Right w s m l addresses) → (Differs w s m l ⊎ C) ⊎ Status (putAll w tag s m) (openL w s m addresses) (Vals (openL w s m addresses) Set × R)
       told (inl t) = inl (inl t)
       told (inr y) = inr (good (open-balance w s m addresses) (vals-open (y .0 .0) (y .1), y .0 .1))
 
-      go : C ⊎ Status s l (Vals l Set × R) → (Differs w s m l ⊎ C) ⊎ Status (openBelow w tag s m addresses) (openL w s m addresses) (Vals (openL w s m addresses) Set × R)
+      go : C ⊎ Status s l (Vals l Set × R) → (Differs w s m l ⊎ C) ⊎ Status (putAll w tag s m) (openL w s m addresses) (Vals (openL w s m addresses) Set × R)
       go (inl c) = inl (inr c)
       go (inr t) = told (check-tells w s m tag l t e)

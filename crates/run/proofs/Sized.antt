@@ -17,14 +17,14 @@ use Rattle.state.specs.Cells.{Entry, valueAt, stampAt, entryAt}
 use Rattle.state.specs.Multiset.{message, Fits}
 use Rattle.state.specs.Step.{Event, took, put, accepted, Step, next, takeEntry}
 use Rattle.state.specs.Moves.{added, loaded, stored, removed}
-use Rattle.state.specs.Check.{opening, agrees, takes, puts, takeBelow, acceptance, rejection}
+use Rattle.state.specs.Check.{opening, agrees, takes, puts, takeAll, acceptance, rejection}
 use Rattle.state.specs.declared.State.{State}
 use Rattle.state.proofs.Cells.{cell-within, value-length}
 use Rattle.state.proofs.Messages.{message-injective}
 use Rattle.run.specs.Calls.{Call, add, load, store, remove, check, look, count, lowest, Lent, step, events}
 use Rattle.run.specs.Demand3.{stateAfter, result, eventsOf}
 use Rattle.run.proofs.Lists.{by-last, place-stays, Each, each-none, each-more, each-both}
-use Rattle.run.proofs.Walk.{by-cond, each-used}
+use Rattle.run.proofs.Walk.{by-cond, each-take, each-put}
 use Rattle.state.proofs.Ready.{Ready, add-ready, use-ready, remove-ready, check-ready}
 use Rattle.run.proofs.Steps.{rowsOf, whenDone, by-call}
 use Rattle.run.proofs.Runs.{events-last}
@@ -81,9 +81,9 @@ module _ (w : ℕ) (one : 1 ≤ w) (tag : List ℕ → Entry → List ℕ) (T : 
           each-more R _ _ (taken a (p .below) (p .size)) (each-none R)
       go check e =
           let size = check-ready w s m e .1 in
-          let ts = each-used R (λ a. took (entryAt w m a)) (s .marks) addresses (λ a h. taken a h size) in
-          by-cond (λ (r : Step). Each R (r .events)) (agrees (takeBelow w tag s m addresses))
-          (λ k. each-both R _ _ ts (each-more R accepted _ tt (each-used R (λ a. put (opening w m a)) (s .marks) addresses (opening-fits size))))
+          let ts = each-take w s m R (λ a h. taken a h size) in
+          by-cond (λ (r : Step). Each R (r .events)) (agrees (takeAll w tag s m))
+          (λ k. each-both R _ _ ts (each-more R accepted _ tt (each-put w s m R (opening-fits size))))
           (λ k. ts)
       go (look a) e = each-none R
       go count e = each-none R

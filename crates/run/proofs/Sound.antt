@@ -16,7 +16,7 @@ use Rattle.state.specs.Counts.{times}
 use Rattle.state.specs.Start.{fresh, none, startOf}
 use Rattle.state.specs.Step.{Event, Step, shut}
 use Rattle.state.specs.Moves.{added, loaded, stored}
-use Rattle.state.specs.Check.{agrees, takes, takeBelow, openBelow, acceptance, rejection}
+use Rattle.state.specs.Check.{agrees, takes, takeAll, putAll, acceptance, rejection}
 use Rattle.state.specs.declared.State.{State}
 use Rattle.state.specs.declared.Verdict.the-variants.{Accept, Reject, Nothing}
 use Rattle.state.proofs.Marks.{fresh-unused}
@@ -37,11 +37,11 @@ use Rattle.run.proofs.Alike.{period-puts, period-takes, alike-check}
 
 -- a check that accepts is not refused, and its hashes agree
 pub accepts-agrees : (w : ℕ) (tag : List ℕ → Entry → List ℕ) (s : State) (m : List ℕ) → step w tag s m check .seen .verdict ≡ Accept
-    → (first (rowsOf w s m check) ≡ 0) × (agrees (takeBelow w tag s m addresses) ≡ true)
+    → (first (rowsOf w s m check) ≡ 0) × (agrees (takeAll w tag s m) ≡ true)
 unfolding acceptance rejection
 accepts-agrees w tag s m =
-    by-call w tag s m (λ (r : Step). r .seen .verdict ≡ Accept → (first (rowsOf w s m check) ≡ 0) × (agrees (takeBelow w tag s m addresses) ≡ true)) check
-    (λ e. by-cond (λ (r : Step). r .seen .verdict ≡ Accept → (first (rowsOf w s m check) ≡ 0) × (agrees (takeBelow w tag s m addresses) ≡ true)) (agrees (takeBelow w tag s m addresses)) (λ k v. (e, k)) (λ k v. absurd (never v)))
+    by-call w tag s m (λ (r : Step). r .seen .verdict ≡ Accept → (first (rowsOf w s m check) ≡ 0) × (agrees (takeAll w tag s m) ≡ true)) check
+    (λ e. by-cond (λ (r : Step). r .seen .verdict ≡ Accept → (first (rowsOf w s m check) ≡ 0) × (agrees (takeAll w tag s m) ≡ true)) (agrees (takeAll w tag s m)) (λ k v. (e, k)) (λ k v. absurd (never v)))
     (λ n e v. absurd (silent v))
   where
     never : Reject ≡ Accept → ⊥
@@ -186,11 +186,11 @@ module _ (w : ℕ) (tag : List ℕ → Entry → List ℕ) (key : List ℕ) wher
       check-more : first (rowsOf w s m check) ≡ 0 → AllAt (run ++ (lent check m ∷ [])) (whenDone w tag s m check .seen .state) (follow l (whenDone w tag s m check .events))
       unfolding acceptance rejection shut
       check-more e =
-          by-cond (λ (r : Step). AllAt (run ++ (lent check m ∷ [])) (r .seen .state) (follow l (r .events))) (agrees (takeBelow w tag s m addresses))
-          (λ k o. subst (Whole (run ++ (lent check m ∷ [])) (openBelow w tag s m addresses)) (sym (opened-log w s m l)) (quiet-all check refl refl _ _ _ (either k) (accepted-all w tag s m l _ _ _ (x check refl e) (agrees-tells (takeBelow w tag s m addresses) k .1))))
+          by-cond (λ (r : Step). AllAt (run ++ (lent check m ∷ [])) (r .seen .state) (follow l (r .events))) (agrees (takeAll w tag s m))
+          (λ k o. subst (Whole (run ++ (lent check m ∷ [])) (putAll w tag s m)) (sym (opened-log w s m l)) (quiet-all check refl refl _ _ _ (either k) (accepted-all w tag s m l _ _ _ (x check refl e) (agrees-tells (takeAll w tag s m) k .1))))
           (λ k o. absurd (true≢false o))
         where
-          either : agrees (takeBelow w tag s m addresses) ≡ true → Differs w s m l ⊎ Collision w tag key run → Collision w tag key (run ++ (lent check m ∷ []))
+          either : agrees (takeAll w tag s m) ≡ true → Differs w s m l ⊎ Collision w tag key run → Collision w tag key (run ++ (lent check m ∷ []))
           either k (inl t) =
               let q : result w tag key run (lent check m) ≡ acceptance w tag s m = step-done w tag s m check e ∙ rw k in
               collides run m (ap (λ (r : Step). r .seen .verdict) q) t
@@ -242,7 +242,7 @@ module _ (w : ℕ) (tag : List ℕ → Entry → List ℕ) (key : List ℕ) wher
       l : Log
       l = logOf w tag key run
 
-      p : (first (rowsOf w s m check) ≡ 0) × (agrees (takeBelow w tag s m addresses) ≡ true)
+      p : (first (rowsOf w s m check) ≡ 0) × (agrees (takeAll w tag s m) ≡ true)
       p = accepts-agrees w tag s m a
 
       told : Differs w s m l ⊎ ((Vals l (LastSet w tag key run) × EachLoad w tag key run) × Right w s m l addresses) → EachLoad w tag key (run ++ (lent check m ∷ [])) ⊎ Collision w tag key (run ++ (lent check m ∷ []))
@@ -254,7 +254,7 @@ module _ (w : ℕ) (tag : List ℕ → Entry → List ℕ) (key : List ℕ) wher
         where
           stands : Collision w tag key run ⊎ Status s l (Vals l (LastSet w tag key run) × EachLoad w tag key run) → EachLoad w tag key (run ++ (lent check m ∷ [])) ⊎ Collision w tag key (run ++ (lent check m ∷ []))
           stands (inl c) = inr (collision-stays run (lent check m) c)
-          stands (inr t) = told (check-tells w s m tag l t (agrees-tells (takeBelow w tag s m addresses) (p .1) .1))
+          stands (inr t) = told (check-tells w s m tag l t (agrees-tells (takeAll w tag s m) (p .1) .1))
 
   pub sound : (run : List Lent) → LastAccepts w tag key run → EachLoad w tag key run ⊎ Collision w tag key run
   sound run (before, m, place, a) = subst (λ (r : List Lent). EachLoad w tag key r ⊎ Collision w tag key r) (sym place) (sound-at before m a)

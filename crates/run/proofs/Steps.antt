@@ -9,7 +9,7 @@ use Rattle.state.specs.Sizes.{addresses}
 use Rattle.state.specs.Cells.{Entry}
 use Rattle.state.specs.Step.{seen, Step}
 use Rattle.state.specs.Moves.{addRows, useRows, removeRows, call, added, addOf, loaded, loadOf, stored, storeOf, removed, removeOf}
-use Rattle.state.specs.Check.{checkRows, agrees, takeBelow, acceptance, rejection, checkOf}
+use Rattle.state.specs.Check.{checkRows, agrees, takeAll, acceptance, rejection, checkOf}
 use Rattle.state.specs.declared.State.{State}
 use Rattle.state.specs.declared.Verdict.the-variants.{Nothing}
 use Rattle.run.specs.Calls.{Call, add, load, store, remove, check, look, count, lowest, idle, step}
@@ -45,7 +45,7 @@ module _ (w : ℕ) (tag : List ℕ → Entry → List ℕ) (s : State) (m : List
   whenDone (load a o) = loaded w tag s m a
   whenDone (store a v) = stored w tag s m a v
   whenDone (remove a) = removed w tag s m a
-  whenDone check = cond (agrees (takeBelow w tag s m addresses)) (acceptance w tag s m) (rejection w tag s m)
+  whenDone check = cond (agrees (takeAll w tag s m)) (acceptance w tag s m) (rejection w tag s m)
   whenDone (look a) = idle s m
   whenDone count = idle s m
   whenDone lowest = idle s m
@@ -82,7 +82,7 @@ module _ (w : ℕ) (tag : List ℕ → Entry → List ℕ) (s : State) (m : List
       go (load a o) = refl
       go (store a v) = refl
       go (remove a) = refl
-      go check = by-cond (λ (r : Step). r .seen .number ≡ 0) (agrees (takeBelow w tag s m addresses)) (λ k. refl) (λ k. refl)
+      go check = by-cond (λ (r : Step). r .seen .number ≡ 0) (agrees (takeAll w tag s m)) (λ k. refl) (λ k. refl)
       go (look a) = refl
       go count = refl
       go lowest = refl

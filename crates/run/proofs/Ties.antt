@@ -10,14 +10,14 @@ use Rattle.state.specs.Cells.{Entry, entryAt}
 use Rattle.state.specs.Start.{startOf}
 use Rattle.state.specs.Step.{Event, took, put, accepted, Step}
 use Rattle.state.specs.Moves.{added, loaded, stored, removed}
-use Rattle.state.specs.Check.{opening, agrees, takes, puts, takeBelow, acceptance, rejection}
+use Rattle.state.specs.Check.{opening, agrees, takes, puts, takeAll, acceptance, rejection}
 use Rattle.state.specs.declared.State.{State}
 use Rattle.state.specs.declared.Verdict.the-variants.{Accept}
 use Rattle.run.specs.Calls.{Call, add, load, store, remove, check, look, count, lowest, Lent, lent, step, events}
 use Rattle.run.specs.Demand3.{stateAfter, result, eventsOf, Accepts}
 use Rattle.run.proofs.Lists.{by-last, place-in, no-place, place-stays, Each, each-none, each-more}
 use Rattle.run.proofs.Logs.{isAccepted}
-use Rattle.run.proofs.Walk.{by-cond, each-used}
+use Rattle.run.proofs.Walk.{by-cond, each-take, each-put}
 use Rattle.run.proofs.Steps.{whenDone, by-call, step-done}
 use Rattle.run.proofs.Runs.{events-append, events-last}
 use Rattle.run.proofs.Sound.{accepts-agrees}
@@ -32,12 +32,10 @@ none-accepted es f p q e = true≢false (f p q accepted e)
 
 module _ (w : ℕ) (tag : List ℕ → Entry → List ℕ) (s : State) (m : List ℕ) where
   plain-takes : Each Plain (takes w s m)
-  unfolding takes
-  plain-takes = each-used Plain (λ a. took (entryAt w m a)) (s .marks) addresses (λ a h. refl)
+  plain-takes = each-take w s m Plain (λ a h. refl)
 
   plain-puts : Each Plain (puts w s m)
-  unfolding puts
-  plain-puts = each-used Plain (λ a. put (opening w m a)) (s .marks) addresses (λ a h. refl)
+  plain-puts = each-put w s m Plain (λ a h. refl)
 
   -- an accepted event is that of a check that accepts, and stands after its takes
   step-accepted : (c : Call) (p q : List Event) → step w tag s m c .events ≡ p ++ (accepted ∷ q) → (c ≡ check) × (step w tag s m c .seen .verdict ≡ Accept) × (p ≡ takes w s m)
@@ -65,7 +63,7 @@ module _ (w : ℕ) (tag : List ℕ → Entry → List ℕ) (s : State) (m : List
       go (store a v) h = absurd (none _ (each-more Plain _ _ refl (one _ refl)) h)
       go (remove a) h = absurd (none _ (one _ refl) h)
       go check h =
-          by-cond (λ (r : Step). r .events ≡ p ++ (accepted ∷ q) → (check ≡ check) × (r .seen .verdict ≡ Accept) × (p ≡ takes w s m)) (agrees (takeBelow w tag s m addresses))
+          by-cond (λ (r : Step). r .events ≡ p ++ (accepted ∷ q) → (check ≡ check) × (r .seen .verdict ≡ Accept) × (p ≡ takes w s m)) (agrees (takeAll w tag s m))
           (λ k h. (refl, refl, at-end (place-in (takes w s m) (accepted ∷ puts w s m) p accepted q h)))
           (λ k h. absurd (none (takes w s m) plain-takes h)) h
       go (look a) h = absurd (no-place p accepted q h)

@@ -2,7 +2,7 @@
 -- are the moves that the calls made. Assumes nothing.
 use mathlib.Core.Path.{_≡_, refl, sym, ap, _∙_, subst}
 use mathlib.Core.Bool.{Bool, true, false, _||_, false≢true, true≢false}
-use mathlib.Core.List.{List, [], _∷_, _++_, foldl, foldl-append}
+use mathlib.Core.List.{List, [], _∷_, _++_, foldl, foldl-map, foldl-append}
 use Prim.Native.Nat.{ℕ, zero, suc}
 use lib.Dec.{ltb}
 use Rattle.state.specs.Sizes.{addresses}
@@ -12,9 +12,10 @@ use Rattle.state.specs.Multiset.{emptyHash}
 use Rattle.state.specs.Start.{fresh, none}
 use Rattle.state.specs.Step.{Event, took, put, accepted, Step, withMarks, shut, takeEntry, putEntry}
 use Rattle.state.specs.Moves.{added, loaded, stored, removed}
-use Rattle.state.specs.Check.{opened, opening, agrees, takes, puts, takeBelow, openBelow, acceptance, rejection}
+use Rattle.state.specs.Check.{opened, opening, agrees, takes, puts, taken, reput, takeAll, putAll, acceptance, rejection}
 use Rattle.state.specs.declared.State.{State}
-use Rattle.state.proofs.Guards.{agrees-tells, fold-used}
+use Rattle.state.proofs.Guards.{agrees-tells}
+use Rattle.state.proofs.Walks.{takeBelow, take-all}
 use Rattle.state.proofs.Multiset.{hash-none}
 use Rattle.run.specs.Calls.{Call, add, load, store, remove, check, look, count, lowest, Lent, step, after, events}
 use Rattle.run.specs.Demand3.{stateAfter, result, eventsOf}
@@ -84,13 +85,13 @@ module _ (tag : List ℕ → Entry → List ℕ) where
   -- ---- a check
 
   module _ (w : ℕ) (s : State) (m : List ℕ) where
-    pub taken-told : takeBelow w tag s m addresses ≡ told s (takes w s m)
-    unfolding takes takeBelow moved
-    taken-told = fold-used moved (λ a. took (entryAt w m a)) (s .marks) (takeBelow w tag s m) (λ n. refl) addresses
+    pub taken-told : takeAll w tag s m ≡ told s (takes w s m)
+    unfolding takes takeAll moved
+    taken-told = sym (foldl-map took moved (taken w (s .marks) m) s)
 
-    opened-told : openBelow w tag s m addresses ≡ told (opened s) (puts w s m)
-    unfolding puts openBelow moved
-    opened-told = fold-used moved (λ a. put (opening w m a)) (s .marks) (openBelow w tag s m) (λ n. refl) addresses
+    opened-told : putAll w tag s m ≡ told (opened s) (puts w s m)
+    unfolding puts putAll moved
+    opened-told = sym (foldl-map put moved (reput w (s .marks) m) (opened s))
 
     -- where no fault is marked after the takes, none was before
     taken-calm : (n : ℕ) → takeBelow w tag s m n .fault ≡ false → s .fault ≡ false
@@ -107,13 +108,13 @@ module _ (tag : List ℕ → Entry → List ℕ) where
     taken-opens zero = refl
     taken-opens (suc n) = by-cond (λ (x : State). moved x accepted ≡ moved s accepted) (used (s .marks) n) (λ u. taken-opens n) (λ u. taken-opens n)
 
-    acceptance-told : agrees (takeBelow w tag s m addresses) ≡ true → openBelow w tag s m addresses ≡ told s (takes w s m ++ (accepted ∷ puts w s m))
+    acceptance-told : agrees (takeAll w tag s m) ≡ true → putAll w tag s m ≡ told s (takes w s m ++ (accepted ∷ puts w s m))
     unfolding opened moved
     acceptance-told k =
-        let f = taken-calm addresses (agrees-tells (takeBelow w tag s m addresses) k .1) in
+        let f = taken-calm addresses (sym (ap (λ (x : State). x .fault) (take-all w tag s m)) ∙ agrees-tells (takeAll w tag s m) k .1) in
         let e : opened s ≡ moved s accepted = rw f in
         opened-told
-        ∙ ap (λ (x : State). told x (puts w s m)) (e ∙ sym (taken-opens addresses) ∙ ap (λ (x : State). moved x accepted) taken-told)
+        ∙ ap (λ (x : State). told x (puts w s m)) (e ∙ sym (taken-opens addresses) ∙ ap (λ (x : State). moved x accepted) (sym (take-all w tag s m) ∙ taken-told))
         ∙ sym (foldl-append moved s (takes w s m) (accepted ∷ puts w s m))
 
     -- ---- a call
@@ -129,7 +130,7 @@ module _ (tag : List ℕ → Entry → List ℕ) where
         go (store a v) o = (_, refl)
         go (remove a) o = (_, refl)
         go check o =
-            by-cond (λ (r : Step). r .seen .state .closed ≡ false → Like (r .seen .state) (told s (r .events))) (agrees (takeBelow w tag s m addresses))
+            by-cond (λ (r : Step). r .seen .state .closed ≡ false → Like (r .seen .state) (told s (r .events))) (agrees (takeAll w tag s m))
             (λ k o. (_, acceptance-told k)) (λ k o. absurd (true≢false o)) o
         go (look a) o = (_, refl)
         go count o = (_, refl)

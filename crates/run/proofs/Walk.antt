@@ -2,7 +2,7 @@
 -- Assumes nothing.
 use mathlib.Core.Path.{_≡_, refl, sym, ap, _∙_, subst}
 use mathlib.Core.Bool.{Bool, true, false, cond, false≢true}
-use mathlib.Core.List.{List, [], _∷_, _++_, foldl-append}
+use mathlib.Core.List.{List, [], _∷_, _++_, map, map-append, foldl, foldl-append}
 use mathlib.Core.Option.{Option, none, some}
 use mathlib.Core.Logic.{_⊎_, inl, inr, _≢_}
 use Prim.Native.Nat.{ℕ, zero, suc, _+_, _≤_, _<_}
@@ -10,13 +10,14 @@ use native.Mathlib.Omega.{arith}
 use lib.Dec.{eqb}
 use borrow.Author.Tests.{eqb-true, eqb-false, eq-eqb, ne-eqb}
 use Rattle.state.specs.Sizes.{addresses}
-use Rattle.state.specs.Marks.{used}
+use Rattle.state.specs.Marks.{used, usedBelow}
 use Rattle.state.specs.Cells.{Entry, entryAt}
 use Rattle.state.specs.Counts.{sameEntry, bit, times}
 use Rattle.state.specs.Step.{Event, took, put, accepted}
-use Rattle.state.specs.Check.{inUse, opening, takes, puts, takeBelow, openBelow}
+use Rattle.state.specs.Check.{opening, takes, puts, takeAll, putAll}
 use Rattle.state.specs.declared.State.{State}
-use Rattle.state.proofs.Guards.{fold-used, opens-below}
+use Rattle.state.proofs.Guards.{opens}
+use Rattle.state.proofs.Walks.{fold-used, takes-used, puts-used, takeBelow, take-all}
 use Rattle.state.proofs.Multiset.{sameEntry-true, times-last}
 use Rattle.run.specs.Demand3.{Differ}
 use Rattle.run.proofs.Lists.{Each, each-none, each-more, each-both}
@@ -44,12 +45,13 @@ unfoldable pub walk : (ℕ → Event) → List ℕ → Log → ℕ → Log
 walk x ws l zero = l
 walk x ws l (suc n) = cond (used ws n) (noted (walk x ws l n) (x n)) (walk x ws l n)
 
-pub each-used : (P : Event → Type 0) (x : ℕ → Event) (ws : List ℕ) (n : ℕ) → ((a : ℕ) → a < n → P (x a)) → Each P (inUse x ws n)
-unfolding inUse
+each-used : (P : Event → Type 0) (x : ℕ → Event) (ws : List ℕ) (n : ℕ) → ((a : ℕ) → a < n → P (x a)) → Each P (map x (usedBelow ws n))
+unfolding usedBelow
 each-used P x ws zero h = each-none P
 each-used P x ws (suc n) h =
-    each-both P (inUse x ws n) (cond (used ws n) (x n ∷ []) []) (each-used P x ws n (λ a k. h a (omega arith)))
-    (by-cond (Each P) (used ws n) (λ u. each-more P (x n) [] (h n (omega arith)) (each-none P)) (λ u. each-none P))
+    rw (map-append x (usedBelow ws n) (cond (used ws n) (n ∷ []) []))
+    (each-both P (map x (usedBelow ws n)) (map x (cond (used ws n) (n ∷ []) [])) (each-used P x ws n (λ a k. h a (omega arith)))
+    (by-cond (λ (k : List ℕ). Each P (map x k)) (used ws n) (λ u. each-more P (x n) [] (h n (omega arith)) (each-none P)) (λ u. each-none P)))
 
 cleared : (g : ℕ → Option Entry) (n a : ℕ) → g a ≡ none → upd g n none a ≡ none
 cleared g n a e = go (eqb a n) refl
@@ -65,14 +67,23 @@ module _ (w : ℕ) (s : State) (m : List ℕ) where
   abbrev pub openL : ℕ → Log
   openL = walk (λ a. put (opening w m a)) (s .marks) noLog
 
+  -- what holds at each address holds of a check's takes, and of its puts
+  pub each-take : (P : Event → Type 0) → ((a : ℕ) → a < addresses → P (took (entryAt w m a))) → Each P (takes w s m)
+  each-take P h = rw (takes-used w s m) (each-used P (λ a. took (entryAt w m a)) (s .marks) addresses h)
+
+  pub each-put : (P : Event → Type 0) → ((a : ℕ) → a < addresses → P (put (opening w m a))) → Each P (puts w s m)
+  each-put P h = rw (puts-used w s m) (each-used P (λ a. put (opening w m a)) (s .marks) addresses h)
+
   -- what a check's events leave written down
   pub taken-log : (l : Log) → follow l (takes w s m) ≡ takenL l addresses
-  unfolding takes walk
-  taken-log l = sym (fold-used noted (λ a. took (entryAt w m a)) (s .marks) (takenL l) (λ n. refl) addresses)
+  unfolding walk
+  taken-log l = ap (foldl noted l) (takes-used w s m) ∙ sym (fold-used noted (λ a. took (entryAt w m a)) (s .marks) (takenL l) (λ n. refl) addresses)
 
   pub opened-log : (l : Log) → follow l (takes w s m ++ (accepted ∷ puts w s m)) ≡ openL addresses
-  unfolding puts noted walk
-  opened-log l = foldl-append noted l (takes w s m) (accepted ∷ puts w s m) ∙ sym (fold-used noted (λ a. put (opening w m a)) (s .marks) openL (λ n. refl) addresses)
+  unfolding noted walk
+  opened-log l =
+      foldl-append noted l (takes w s m) (accepted ∷ puts w s m) ∙ ap (foldl noted noLog) (puts-used w s m)
+      ∙ sym (fold-used noted (λ a. put (opening w m a)) (s .marks) openL (λ n. refl) addresses)
 
   -- ---- the takes
 
@@ -206,16 +217,16 @@ module _ (w : ℕ) (s : State) (m : List ℕ) where
         (λ e. status-map (λ t. (t .0, right-suc l n (t .1) (λ u. absurd (false≢true (sym e ∙ u))))) ih)
 
     -- where no fault is marked after a check's takes, they differ from the puts, or every take of the period was right
-    pub check-tells : {Q : Type 0} (l : Log) → Status s l Q → takeBelow w tag s m addresses .fault ≡ false → Differs l ⊎ (Q × Right l addresses)
+    pub check-tells : {Q : Type 0} (l : Log) → Status s l Q → takeAll w tag s m .fault ≡ false → Differs l ⊎ (Q × Right l addresses)
     check-tells {Q} l st e = go (taken-status l st addresses)
       where
         k : Log
         k = takenL l addresses
 
         go : Status (takeBelow w tag s m addresses) k (Q × Right l addresses) → Differs l ⊎ (Q × Right l addresses)
-        go (faulty x) = absurd (false≢true (sym e ∙ x))
+        go (faulty x) = absurd (false≢true (sym e ∙ ap (λ (t : State). t .fault) (take-all w tag s m) ∙ x))
         go (bad c g x) = inl (c, λ q. let f : times c (k .puts) ≡ times c (l .puts) = ap (times c) (taken-puts l addresses) in omega arith)
         go (good b x) = inr x
 
-    pub open-stamps : (n : ℕ) → Stamps (openBelow w tag s m n) (openL n)
-    open-stamps n = record { later = λ c h. open-later c (omega (arith, opens-below w tag s m n .clock)) n; alike = open-alike n }
+    pub open-stamps : Stamps (putAll w tag s m) (openL addresses)
+    open-stamps = record { later = λ c h. open-later c (omega (arith, opens w tag s m .clock)) addresses; alike = open-alike addresses }

@@ -6,13 +6,13 @@ use lib.ListN.{take, replicate, getD}
 use Rattle.octets.specs.Layout.{total, join, split, number, bytes}
 use Rattle.octets.specs.Places.{xor, same}
 use Rattle.state.specs.Sizes.{keySize, addresses, valueSize, cellSize, storeSize, ceiling}
-use Rattle.state.specs.Marks.{used, marked}
+use Rattle.state.specs.Marks.{used, marked, usedBelow, inUse}
 use Rattle.state.specs.Cells.{Entry, valueAt, stampAt, entryAt, writeCell, writeEntry}
 use Rattle.state.specs.Multiset.{emptyHash, withTag, sameHash}
 use Rattle.state.specs.Start.{fresh, startOf}
 use Rattle.state.specs.Step.{withMarks, shut, next, takeEntry, putEntry}
 use Rattle.state.specs.Moves.{addRows, useRows, call, added, addOf, loaded, loadOf, stored, storeOf}
-use Rattle.state.specs.Check.{checkRows, inUse, opened, opening, putBelow, agrees, takes, puts, takeBelow, openBelow, acceptance, rejection, checkOf}
+use Rattle.state.specs.Check.{checkRows, taken, opening, reput, opened, agrees, takes, puts, writeAll, takeAll, putAll, acceptance, rejection, checkOf}
 use Rattle.state.specs.declared.State.{State}
 use Rattle.state.specs.declared.Verdict.{Verdict}
 use Rattle.state.specs.declared.Verdict.the-variants.{Accept, Reject, Nothing}
@@ -70,5 +70,5 @@ lied =
 
 worked : (session honest ≡ reply 0 Nothing [] ∷ reply 0 Nothing [] ∷ reply 0 Nothing (0x42 ∷ []) ∷ reply 0 Accept [] ∷ reply 0 Nothing (0x42 ∷ []) ∷ reply 0 Accept [] ∷ [])
     × (session lied ≡ reply 0 Nothing [] ∷ reply 0 Nothing [] ∷ reply 0 Nothing (0x42 ∷ []) ∷ reply 0 Nothing (0x41 ∷ []) ∷ reply 0 Reject [] ∷ reply 7 Nothing (7 ∷ []) ∷ [])
-unfolding honest lied session begin lend replies value toy step total join split number bytes xor keySize addresses valueSize cellSize storeSize ceiling used marked valueAt stampAt entryAt writeCell writeEntry emptyHash withTag same sameHash fresh startOf withMarks shut next takeEntry putEntry addRows useRows call added addOf loaded loadOf stored storeOf checkRows inUse opened opening putBelow agrees takes puts takeBelow openBelow acceptance rejection checkOf
+unfolding honest lied session begin lend replies value toy step total join split number bytes xor keySize addresses valueSize cellSize storeSize ceiling used marked valueAt stampAt entryAt writeCell writeEntry emptyHash withTag same sameHash fresh startOf withMarks shut next takeEntry putEntry addRows useRows call added addOf loaded loadOf stored storeOf checkRows usedBelow inUse taken opening reput opened agrees takes puts writeAll takeAll putAll acceptance rejection checkOf
 worked = (refl, refl)

@@ -1,7 +1,7 @@
 -- Cells do not meet: a write to one leaves every part of the store before it and past it as it was. Assumes nothing.
 use mathlib.Core.Path.{_≡_, refl, sym, ap, ap₂, _∙_}
 use mathlib.Core.Logic.{_⊎_, inl, inr, ⊎-elim}
-use mathlib.Core.Bool.{Bool, true, false, cond}
+use mathlib.Core.Bool.{Bool, true, false}
 use mathlib.Core.List.{List, [], _∷_, _++_, append-assoc}
 use Prim.Native.Nat.{ℕ, zero, suc, _+_, _-_, _*_, _/_, _%_, _^_, _≤_, _<_}
 use native.Mathlib.Nat.{mul-le-mul-left, mul-suc}
@@ -14,9 +14,7 @@ use lib.Seq.{length-take-le, take-append-le, drop-append-le, take-at, drop-at, d
 use Rattle.octets.specs.Layout.{number, bytes}
 use Rattle.octets.proofs.Layouts.{bytes-length, number-bytes, pow-bytes, bytes-2, number-2}
 use Rattle.state.specs.Sizes.{addresses, valueSize, cellSize, storeSize}
-use Rattle.state.specs.Marks.{used}
-use Rattle.state.specs.Cells.{entry, valueAt, stampAt, entryAt, writeCell, writeEntry}
-use Rattle.state.specs.Check.{opening, putBelow}
+use Rattle.state.specs.Cells.{entry, valueAt, stampAt, entryAt, writeCell}
 
 -- the q elements from p on, where they lie in the first of two lists
 part-front : (p q : ℕ) (xs ys : List ℕ) → p + q ≤ length xs → take q (drop p (xs ++ ys)) ≡ take q (drop p xs)
@@ -125,29 +123,3 @@ pub stamp-read : (m : List ℕ) (n : ℕ) → n + 1 < length m → number (take 
 stamp-read m n h =
     ap (λ (l : List ℕ). number (take 2 l)) (drop-cons m n 0 (omega arith) ∙ ap (λ (l : List ℕ). getD m n 0 ∷ l) (drop-cons m (suc n) 0 (omega arith)))
     ∙ number-2 (getD m n 0) (getD m (suc n) 0) ∙ rw add-one
-
--- ---- the store after an accepted check
-
-puts-step : (b : Bool) (w : ℕ) (x m : List ℕ) (n : ℕ) → n < addresses → length m ≡ storeSize w → length x ≡ storeSize w
-    → length (cond b (writeEntry w x (opening w m n)) x) ≡ storeSize w
-unfolding writeEntry opening
-puts-step true w x m n h l k = write-length w x n (valueAt w m n) 1 h k (value-length w m n h l)
-puts-step false w x m n h l k = k
-
-pub puts-length : (w : ℕ) (ws m : List ℕ) (n : ℕ) → n ≤ addresses → length m ≡ storeSize w → length (putBelow w ws m n) ≡ storeSize w
-unfolding putBelow
-puts-length w ws m zero h l = l
-puts-length w ws m (suc n) h l = puts-step (used ws n) w (putBelow w ws m n) m n h l (puts-length w ws m n (omega arith) l)
-
-beyond-step : (b : Bool) (w : ℕ) (x m : List ℕ) (n a : ℕ) → n < addresses → n < a → length m ≡ storeSize w → length x ≡ storeSize w
-    → valueAt w (cond b (writeEntry w x (opening w m n)) x) a ≡ valueAt w x a
-unfolding writeEntry opening
-beyond-step true w x m n a h g l k = value-other w x n (valueAt w m n) 1 h k (value-length w m n h l) a (λ e. absurd (omega arith))
-beyond-step false w x m n a h g l k = refl
-
--- a value not yet put again is as it was
-pub puts-beyond : (w : ℕ) (ws m : List ℕ) (n a : ℕ) → n ≤ a → a < addresses → length m ≡ storeSize w → valueAt w (putBelow w ws m n) a ≡ valueAt w m a
-unfolding putBelow
-puts-beyond w ws m zero a h g l = refl
-puts-beyond w ws m (suc n) a h g l =
-    beyond-step (used ws n) w (putBelow w ws m n) m n a (omega arith) h l (puts-length w ws m n (omega arith) l) ∙ puts-beyond w ws m n a (omega arith) g l

@@ -1,11 +1,11 @@
--- 01, Check. Over the stamp's width w and the tag. Assumes nothing.
+-- 01, Check. Over the stamp's width w and the tag. What a check takes and what an accepted one puts are two lists; the state, the store and the events are
+-- made of these. Assumes nothing.
 use mathlib.Core.Bool.{Bool, cond, not, _&&_}
-use mathlib.Core.List.{List, [], _∷_, _++_}
+use mathlib.Core.List.{List, [], _∷_, _++_, map, foldl}
 use mathlib.Core.Option.{Option, none, some}
-use Prim.Native.Nat.{ℕ, zero, suc}
+use Prim.Native.Nat.{ℕ}
 use Rattle.refusal.specs.Refusal.{Row}
-use Rattle.state.specs.Sizes.{addresses}
-use Rattle.state.specs.Marks.{used}
+use Rattle.state.specs.Marks.{inUse}
 use Rattle.state.specs.Cells.{Entry, entry, valueAt, entryAt, writeEntry}
 use Rattle.state.specs.Multiset.{emptyHash, sameHash}
 use Rattle.state.specs.Step.{Event, took, put, accepted, seen, Step, step, shut, takeEntry, putEntry}
@@ -23,55 +23,53 @@ verdictNumber Nothing = none
 unfoldable pub checkRows : ℕ → State → List ℕ → List Row
 checkRows w s m = shutRow s ∷ storeRow w m ∷ []
 
--- what stands at the addresses in use below n, lowest first: x at each of them
-unfoldable pub inUse : {A : Type 0} → (ℕ → A) → List ℕ → ℕ → List A
-inUse x ws zero = []
-inUse x ws (suc n) = inUse x ws n ++ cond (used ws n) (x n ∷ []) []
+-- what is taken at the addresses in use: each with what its cell holds, lowest first
+unfoldable pub taken : ℕ → List ℕ → List ℕ → List Entry
+taken w ws m = map (entryAt w m) (inUse ws)
+
+-- and what is put there again: the value that its cell holds, with stamp 1
+unfoldable pub opening : ℕ → List ℕ → ℕ → Entry
+opening w m a = entry a (valueAt w m a) 1
+
+unfoldable pub reput : ℕ → List ℕ → List ℕ → List Entry
+reput w ws m = map (opening w m) (inUse ws)
 
 -- a new period: empty hashes, and the clock at 1
 unfoldable pub opened : State → State
 opened s =
     record { key = s .key; put = emptyHash; take = emptyHash; clock = 1; fault = s .fault; closed = s .closed; marks = s .marks }
 
--- what an accepted check puts at an address: its value with stamp 1
-unfoldable pub opening : ℕ → List ℕ → ℕ → Entry
-opening w m a = entry a (valueAt w m a) 1
-
--- the store after the addresses in use below n are put again
-unfoldable pub putBelow : ℕ → List ℕ → List ℕ → ℕ → List ℕ
-putBelow w ws m zero = m
-putBelow w ws m (suc n) = cond (used ws n) (writeEntry w (putBelow w ws m n) (opening w m n)) (putBelow w ws m n)
-
 -- the hashes are equal and no fault is marked
 unfoldable pub agrees : State → Bool
 agrees s = sameHash (s .put) (s .take) && not (s .fault)
 
--- what a check takes, and what an accepted one puts
+-- the events of a check: its takes, and an accepted one's puts
 unfoldable pub takes : ℕ → State → List ℕ → List Event
-takes w s m = inUse (λ a. took (entryAt w m a)) (s .marks) addresses
+takes w s m = map took (taken w (s .marks) m)
 
 unfoldable pub puts : ℕ → State → List ℕ → List Event
-puts w s m = inUse (λ a. put (opening w m a)) (s .marks) addresses
+puts w s m = map put (reput w (s .marks) m)
+
+-- the store after the puts
+unfoldable pub writeAll : ℕ → State → List ℕ → List ℕ
+writeAll w s m = foldl (writeEntry w) m (reput w (s .marks) m)
 
 module _ (w : ℕ) (tag : List ℕ → Entry → List ℕ) where
-  -- the state after every address in use below n is taken, lowest first
-  unfoldable pub takeBelow : State → List ℕ → ℕ → State
-  takeBelow s m zero = s
-  takeBelow s m (suc n) = cond (used (s .marks) n) (takeEntry tag (takeBelow s m n) (entryAt w m n)) (takeBelow s m n)
+  -- the state after the takes
+  unfoldable pub takeAll : State → List ℕ → State
+  takeAll s m = foldl (takeEntry tag) s (taken w (s .marks) m)
 
-  -- the state of the new period, after the addresses in use below n are put
-  unfoldable pub openBelow : State → List ℕ → ℕ → State
-  openBelow s m zero = opened s
-  openBelow s m (suc n) = cond (used (s .marks) n) (putEntry tag (openBelow s m n) (opening w m n)) (openBelow s m n)
+  -- the state of the new period after the puts
+  unfoldable pub putAll : State → List ℕ → State
+  putAll s m = foldl (putEntry tag) (opened s) (reput w (s .marks) m)
 
   -- accepted: between the takes, which end a period, and the puts, which begin the next
   unfoldable pub acceptance : State → List ℕ → Step
-  acceptance s m =
-      step (seen 0 Accept (openBelow s m addresses) (putBelow w (s .marks) m addresses) []) (takes w s m ++ (accepted ∷ puts w s m))
+  acceptance s m = step (seen 0 Accept (putAll s m) (writeAll w s m) []) (takes w s m ++ (accepted ∷ puts w s m))
 
   -- rejected: the state given, closed, and the store as it was
   unfoldable pub rejection : State → List ℕ → Step
   rejection s m = step (seen 0 Reject (shut s) m []) (takes w s m)
 
   unfoldable pub checkOf : State → List ℕ → Step
-  checkOf s m = call (checkRows w s m) s m [] (cond (agrees (takeBelow s m addresses)) (acceptance s m) (rejection s m))
+  checkOf s m = call (checkRows w s m) s m [] (cond (agrees (takeAll s m)) (acceptance s m) (rejection s m))

@@ -1,7 +1,7 @@
 -- 01, "The trusted state and the moves": the marks. That of address a is bit a % 64 of word a / 64, the lowest bit first.
 -- Assumes nothing.
 use mathlib.Core.Bool.{Bool, not, cond}
-use mathlib.Core.List.{List}
+use mathlib.Core.List.{List, [], _∷_, _++_}
 use Prim.Native.Nat.{ℕ, zero, suc, _+_, _-_, _/_, _%_, _^_}
 use lib.Bits.{bitAnd, bitOr}
 use lib.Dec.{eqb}
@@ -18,6 +18,14 @@ marked ws a = set ws (a / 64) (bitOr (getD ws (a / 64) 0) (2 ^ (a % 64)))
 
 unfoldable pub unmarked : List ℕ → ℕ → List ℕ
 unmarked ws a = set ws (a / 64) (bitAnd (getD ws (a / 64) 0) (2 ^ 64 - 1 - 2 ^ (a % 64)))
+
+-- the addresses in use below n, lowest first; and all of them
+unfoldable pub usedBelow : List ℕ → ℕ → List ℕ
+usedBelow ws zero = []
+usedBelow ws (suc n) = usedBelow ws n ++ cond (used ws n) (n ∷ []) []
+
+unfoldable pub inUse : List ℕ → List ℕ
+inUse ws = usedBelow ws addresses
 
 -- 01, Count: here of the addresses below n
 unfoldable pub countBelow : ℕ → List ℕ → ℕ

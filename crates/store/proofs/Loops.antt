@@ -14,9 +14,9 @@ use Rattle.state.specs.Sizes.{addresses, storeSize}
 use Rattle.state.specs.Marks.{used}
 use Rattle.state.specs.Cells.{Entry, entry, valueAt, entryAt, writeEntry}
 use Rattle.state.specs.Step.{takeEntry, putEntry}
-use Rattle.state.specs.Check.{opened, opening, takeBelow, openBelow, putBelow}
+use Rattle.state.specs.Check.{opened, opening}
 use Rattle.state.specs.declared.State.{State}
-use Rattle.state.proofs.Cells.{puts-length, puts-beyond}
+use Rattle.state.proofs.Walks.{takeBelow, openBelow, putBelow, puts-length, puts-beyond}
 
 -- n is the next address in use from a on, or the number of addresses
 pub record Next (ws : List ℕ) (a n : ℕ) : Type 0 where

@@ -2,14 +2,14 @@
 use state::State;
 ghost use mathlib.Core.Path.{_≡_};
 ghost use lib.ListN.{length};
-ghost use Rattle.state.specs.Sizes.{width, addresses, storeSize};
-ghost use Rattle.state.specs.Check.{takeBelow, openBelow, putBelow};
+ghost use Rattle.state.specs.Sizes.{width, storeSize};
+ghost use Rattle.state.specs.Check.{takeAll, putAll, writeAll};
 ghost use Rattle.entries.specs.Tag.{tag};
 
 // Every address in use is taken, lowest first.
 pub fn take_all(s: State, store: &[u8]) -> State
     requires { ⌜ length (now store) ≡ storeSize width ⌝ }
-    ensures { λ r. ⌜ r ≡ takeBelow width tag s (now (store .entry)) addresses ⌝ }
+    ensures { λ r. ⌜ r ≡ takeAll width tag s (now (store .entry)) ⌝ }
 {
     let m = s.marks;
     let mut r = s;
@@ -24,8 +24,8 @@ pub fn take_all(s: State, store: &[u8]) -> State
 // The puts that begin a period: at each address in use its value, with stamp 1.
 pub fn put_all(s: State, store: &mut [u8]) -> State
     requires { ⌜ length (now store) ≡ storeSize width ⌝ }
-    ensures { λ r. ⌜ (r ≡ openBelow width tag s (now (store .entry)) addresses)
-        × (now (store .exit) ≡ putBelow width (s .marks) (now (store .entry)) addresses) ⌝ }
+    ensures { λ r. ⌜ (r ≡ putAll width tag s (now (store .entry)))
+        × (now (store .exit) ≡ writeAll width s (now (store .entry))) ⌝ }
 {
     let m = s.marks;
     let mut r = periods::opened(s);

@@ -2,9 +2,9 @@
 use borrow.Author.Needs.{needs}
 use mathlib.Core.Path.{_≡_, sym, ap, ap₂, _∙_}
 use mathlib.Core.Bool.{true, false}
-use Rattle.state.specs.Sizes.{addresses, width}
+use Rattle.state.specs.Sizes.{width}
 use Rattle.state.specs.Step.{seen}
-use Rattle.state.specs.Check.{checkOf, agrees, takeBelow, acceptance, rejection}
+use Rattle.state.specs.Check.{checkOf, agrees, takeAll, acceptance, rejection}
 use Rattle.state.specs.declared.Verdict.the-variants.{Accept, Reject}
 use Rattle.entries.specs.Tag.{tag}
 use Rattle.state.proofs.Ready.{check-ready, call-done}
@@ -35,7 +35,7 @@ returns-2 c =
     let a = p .before .before .before in
     let d = a .before .before .before in
     let x = d .before .before .before .before .args in
-    let e : agrees (takeBelow width tag (x .s) (x .store .now) addresses) ≡ true = sym (ap agrees (a .before .take-all .ensures)) ∙ sym (a .agrees .ensures) ∙ p .before .before .if2 .taken in
+    let e : agrees (takeAll width tag (x .s) (x .store .now)) ≡ true = sym (ap agrees (a .before .take-all .ensures)) ∙ sym (a .agrees .ensures) ∙ p .before .before .if2 .taken in
     rw (call-done _ (x .s) (x .store .now) _ _ (sym (d .before .check .ensures) ∙ d .if1 .left), e)
     (ap₂ (λ s m. seen 0 Accept s m _) (p .put-all .ensures .0) (p .put-all .ensures .1))
 
@@ -45,7 +45,7 @@ returns-3 c =
     let a = c .before .before in
     let d = a .before .before .before in
     let x = d .before .before .before .before .args in
-    let e : agrees (takeBelow width tag (x .s) (x .store .now) addresses) ≡ false = sym (ap agrees (a .before .take-all .ensures)) ∙ sym (a .agrees .ensures) ∙ c .before .if2 .left in
+    let e : agrees (takeAll width tag (x .s) (x .store .now)) ≡ false = sym (ap agrees (a .before .take-all .ensures)) ∙ sym (a .agrees .ensures) ∙ c .before .if2 .left in
     rw (call-done _ (x .s) (x .store .now) _ _ (sym (d .before .check .ensures) ∙ d .if1 .left), e)
     (ap (λ s. seen 0 Reject s (x .store .now) _) (c .shut .ensures))
 

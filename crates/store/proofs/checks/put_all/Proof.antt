@@ -8,7 +8,8 @@ use lib.ListN.{length}
 use Rattle.marks.specs.Next.{nextUsed}
 use Rattle.state.specs.Sizes.{addresses, storeSize, width}
 use Rattle.state.specs.Marks.{used}
-use Rattle.state.specs.Check.{opened, openBelow, putBelow}
+use Rattle.state.specs.Check.{opened}
+use Rattle.state.proofs.Walks.{openBelow, putBelow, put-all, write-all}
 use Rattle.entries.specs.Tag.{tag}
 use Rattle.store.proofs.Loops.{next, open-begin, open-turn, open-length, open-again}
 use Rattle.store.proofs.checks.put_all.Statement.{statement}
@@ -58,8 +59,8 @@ returns c =
     let x = o .before .before .before .args in
     let m = x .store .now in
     let e : l .a ≡ 1024 = omega arith in (
-      l .inv .3 ∙ ap₂ (λ s n. openBelow width tag s m n) (o .opened .ensures) e ∙ open-again width tag (x .s) m 1024,
-      l .inv .4 ∙ ap₂ (λ s n. putBelow width (s .marks) m n) (o .opened .ensures) e,
+      l .inv .3 ∙ ap₂ (λ s n. openBelow width tag s m n) (o .opened .ensures) e ∙ open-again width tag (x .s) m 1024 ∙ sym (put-all width tag (x .s) m),
+      l .inv .4 ∙ ap₂ (λ s n. putBelow width (s .marks) m n) (o .opened .ensures) e ∙ sym (write-all width (x .s) m),
     )
 
 pub put-all-spec : {M : Type 1} → statement M

@@ -1,12 +1,12 @@
 -- `store::checks::take_all` meets its contract: at an address in use those below it are taken. Assumes nothing.
 use borrow.Author.Needs.{needs}
-use mathlib.Core.Path.{_≡_, ap, _∙_}
+use mathlib.Core.Path.{_≡_, sym, ap, _∙_}
 use mathlib.Core.Bool.{true}
 use Prim.Native.Nat.{_+_, _-_, _≤_, _<_}
 use native.Mathlib.Omega.{arith}
 use Rattle.state.specs.Sizes.{addresses, width}
 use Rattle.state.specs.Marks.{used}
-use Rattle.state.specs.Check.{takeBelow}
+use Rattle.state.proofs.Walks.{takeBelow, take-all}
 use Rattle.entries.specs.Tag.{tag}
 use Rattle.store.proofs.Loops.{next, take-begin, take-turn}
 use Rattle.store.proofs.checks.take_all.Statement.{statement}
@@ -46,7 +46,7 @@ returns c =
     let l = c .before .loop in
     let x = c .before .before .before .before .before .args in
     let e : l .a ≡ 1024 = omega arith in
-    l .inv .2 ∙ ap (takeBelow width tag (x .s) (x .store .now)) e
+    l .inv .2 ∙ ap (takeBelow width tag (x .s) (x .store .now)) e ∙ sym (take-all width tag (x .s) (x .store .now))
 
 pub take-all-spec : {M : Type 1} → statement M
 unfolding addresses
