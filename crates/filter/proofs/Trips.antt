@@ -116,7 +116,7 @@ module _ (bs : List ℕ) (f : Fit (octets 28) bs) where
 
 -- ---- the calls
 
-prefix-length : {r : FilterRecord} → FieldsFit r → length (r .prefix) ≡ 16
+pub prefix-length : {r : FilterRecord} → FieldsFit r → length (r .prefix) ≡ 16
 prefix-length k = fit-length (k .prefix)
 
 -- what pack gives for a lawful filter record, and unpack for lawful bytes
@@ -156,7 +156,7 @@ unpack-accepts bs = (
   (λ l. ap (λ (x : Unpacked). x .number) (unpacks bs l)),
 )
 
-pub one-to-one : OneToOne
+pub one-to-one : OneToOne packOf unpackOf
 one-to-one = record {
   unpack-pack = unpack-pack;
   pack-unpack = pack-unpack;

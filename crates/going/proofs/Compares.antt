@@ -27,7 +27,7 @@ no-number OtherMember = refl
 no-number Back = refl
 no-number Forward = refl
 
-pub compared : Compared
+pub compared : Compared goingOf
 unfolding goingOf
 compared = record {
   exactly = λ g held offered. ((λ e. rw (← e) (true-answer held offered _ _ refl refl)), given-answer g held offered);

@@ -26,7 +26,7 @@ goingNumber OtherMember = none
 goingNumber Back = none
 goingNumber Forward = none
 
--- the comparison gives an answer exactly when what that answer says is true, and never a number
-pub record Compared : Type 0 where
-  pub exactly : (g : Going) (held offered : FilterRecord) → (goingOf held offered ≡ g) ↔ Says g held offered
-  pub no-number : (held offered : FilterRecord) → goingNumber (goingOf held offered) ≡ none
+-- a comparison gives an answer exactly when what that answer says is true, and never a number
+pub record Compared (c : FilterRecord → FilterRecord → Going) : Type 0 where
+  pub exactly : (g : Going) (held offered : FilterRecord) → (c held offered ≡ g) ↔ Says g held offered
+  pub no-number : (held offered : FilterRecord) → goingNumber (c held offered) ≡ none

@@ -11,6 +11,7 @@ use borrow.Author.Tests.{eq-eqb, ne-eqb, not-true, not-false}
 use Rattle.state.specs.Sizes.{addresses}
 use Rattle.state.specs.Marks.{used, usedBelow, countBelow, countOf, firstFrom, lowestFree}
 use Rattle.state.specs.Moves.{lowestOf, freeNumber}
+use Rattle.state.proofs.InUse.{in-use-only, in-use-all}
 use Rattle.state.specs.declared.Free.the-variants.{At, Full}
 use Rattle.marks.specs.Next.{nextUsed}
 use Rattle.marks.specs.Sets.{Distinct, Counted, Lowest, AllUsed}
@@ -25,25 +26,6 @@ count-length ws (suc n) = step (used ws n) (count-length ws n)
     step : (t : Bool) → countBelow n ws ≡ length (usedBelow ws n) → cond t (countBelow n ws + 1) (countBelow n ws) ≡ length (usedBelow ws n ++ cond t (n ∷ []) [])
     step true e = rw (length-append, e)
     step false e = rw (length-append, e) (omega arith)
-
-pub in-use-only : (ws : List ℕ) (n a : ℕ) → List·Memᴰ a (usedBelow ws n) → (a < n) × (used ws a ≡ true)
-unfolding usedBelow
-in-use-only ws zero a m = absurd (List·Memᴰ·not-nil m)
-in-use-only ws (suc n) a m =
-    ⊎-elim (λ l. let h = in-use-only ws n a l in (omega (arith, h .0), h .1)) (last (used ws n) refl) (List·Memᴰ·append-cases (usedBelow ws n) m)
-  where
-    last : (t : Bool) → used ws n ≡ t → List·Memᴰ a (cond t (n ∷ []) []) → (a < suc n) × (used ws a ≡ true)
-    last true e l = let q : a ≡ n = List·Memᴰ·eq-of-singleton l in (omega arith, rw q e)
-    last false e l = absurd (List·Memᴰ·not-nil l)
-
-pub in-use-all : (ws : List ℕ) (n a : ℕ) → a < n → used ws a ≡ true → List·Memᴰ a (usedBelow ws n)
-unfolding usedBelow
-in-use-all ws zero a h e = absurd (not-suc-le-zero h)
-in-use-all ws (suc n) a h e =
-    ⊎-elim (λ q. Memᴰ·append-right (usedBelow ws n) (last q)) (λ l. Memᴰ·append-left _ (in-use-all ws n a l e)) (eq-or-lt-of-le (le-of-suc-le-suc h))
-  where
-    last : a ≡ n → List·Memᴰ a (cond (used ws n) (n ∷ []) [])
-    last q = rw (rw q at e) (List·Memᴰ·head q)
 
 distinct-last : (xs : List ℕ) (x : ℕ) → Distinct xs → (List·Memᴰ x xs → ⊥) → Distinct (xs ++ (x ∷ []))
 distinct-last [] x d n = (List·Memᴰ·not-nil, tt)

@@ -87,6 +87,13 @@ module _ (w : ℕ) (m : List ℕ) (a : ℕ) (v : List ℕ) (t : ℕ) (h : a < ad
       ∙ part-back p q n (take (cellSize w * a) m ++ (v ++ bytes w t)) (drop n m) (take n m) (length-append (take (cellSize w * a) m) (v ++ bytes w t) ∙ ap₂ (λ (x y : ℕ). x + y) front cell) f g
       ∙ ap (λ (x : List ℕ). take q (drop p x)) (take-append-drop n m)
 
+  -- the bytes of the cell, and of another
+  pub cell-written : take (cellSize w) (drop (cellSize w * a) (writeCell w m a v t)) ≡ v ++ bytes w t
+  cell-written = ap (take (cellSize w)) (at ∙ sym (append-assoc v (bytes w t) _)) ∙ take-at (v ++ bytes w t) _ (cellSize w) cell
+
+  pub cell-other : (b : ℕ) → (b ≡ a → ⊥) → take (cellSize w) (drop (cellSize w * b) (writeCell w m a v t)) ≡ take (cellSize w) (drop (cellSize w * b) m)
+  cell-other b d = ⊎-elim (λ g. before-cell (cellSize w * b) (cellSize w) g) (λ g. past-cell (cellSize w * b) (cellSize w) g) (apart (cellSize w) a b d)
+
   pub value-other : (b : ℕ) → (b ≡ a → ⊥) → valueAt w (writeCell w m a v t) b ≡ valueAt w m b
   unfolding valueAt cellSize
   value-other b d =

@@ -43,7 +43,7 @@ agrees-tells t h =
     let p = both (sameHash (t .put) (t .take)) (not (t .fault)) h in
     (sameHash-true (t .put) (t .take) (p .0), not-true (t .fault) (p .1))
 
-equal-agrees : (t : State) → t .put ≡ t .take → t .fault ≡ false → agrees t ≡ true
+pub equal-agrees : (t : State) → t .put ≡ t .take → t .fault ≡ false → agrees t ≡ true
 unfolding agrees
 equal-agrees t h f = rw (equal-sameHash (t .put) (t .take) h, f)
 

@@ -4,5 +4,8 @@ pub mod Marks
 pub mod Multiset
 pub mod Messages
 pub mod Walks
+pub mod InUse
 pub mod Guards
+pub mod Table
+pub mod Effects
 pub mod Ready

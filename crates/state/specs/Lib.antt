@@ -7,3 +7,6 @@ pub mod Start
 pub mod Step
 pub mod Moves
 pub mod Check
+pub mod Calls
+pub mod Table
+pub mod Effects

@@ -1,0 +1,379 @@
+-- What is taken one after the other joins the take hash, and what is put joins the put hash: by induction on the entries. So each call that is done does what is
+-- claimed, and a check's verdict is told by the entry state and the bytes. Assumes nothing.
+use mathlib.Core.Path.{_≡_, refl, sym, ap, ap₂, _∙_, subst}
+use mathlib.Core.Bool.{Bool, true, false, cond, not, _&&_, _||_, or-true, false≢true}
+use mathlib.Core.List.{List, [], _∷_, _++_, map, foldl, List·Memᴰ, List·Memᴰ·head, List·Memᴰ·tail, List·Memᴰ·not-nil, List·Memᴰ·cases-cons, Memᴰ·map, Memᴰ·of-map}
+use mathlib.Core.Logic.{_⊎_, inl, inr, ⊎-elim, _↔_, _≢_}
+use Prim.Native.Nat.{ℕ, zero, suc, _+_, _*_, _%_, _^_, _<_, _≤_}
+use native.Mathlib.Nat.{zero-div}
+use native.Mathlib.Omega.{arith}
+use lib.Dec.{eqb}
+use lib.ListN.{length, take, drop, replicate, length-map, replicate-append-replicate}
+use borrow.Author.Tests.{eqb-true, eqb-false, eq-eqb, ne-eqb}
+use Rattle.refusal.specs.Refusal.{Row, first, done}
+use Rattle.octets.specs.Layout.{total, split, octets, bytes}
+use Rattle.octets.specs.Places.{xor}
+use Rattle.state.specs.Sizes.{addresses, valueSize, cellSize, storeSize}
+use Rattle.state.specs.Marks.{used, marked, unmarked, inUse}
+use Rattle.state.specs.Cells.{Entry, entry, valueAt, stampAt, entryAt, writeCell, writeEntry}
+use Rattle.state.specs.Multiset.{emptyHash, withTag}
+use Rattle.state.specs.Step.{Seen, seen, Step, step, withMarks, shut, next, takeEntry, putEntry}
+use Rattle.state.specs.Moves.{addRows, useRows, removeRows, call, added, loaded, stored, removed, addOf, loadOf, storeOf, removeOf}
+use Rattle.state.specs.Check.{checkRows, taken, opening, reput, opened, agrees, writeAll, takeAll, putAll, acceptance, rejection, checkOf}
+use Rattle.state.specs.Calls.{calls}
+use Rattle.state.specs.Table.{Marked, zeroHash}
+use Rattle.state.specs.Effects.{Typed, Ahead, cellIn, valueIn, stampIn, entryIn, withCell, joined, After, takenOf, putOf, Agrees, Accepted, Rejected, Effects}
+use Rattle.state.specs.declared.Hash.{Hash}
+use Rattle.state.specs.declared.State.{State}
+use Rattle.state.specs.declared.Verdict.the-variants.{Accept, Reject, Nothing}
+use Rattle.state.proofs.Cells.{cell-written, cell-other, value-length}
+use Rattle.state.proofs.Marks.{used-marked, used-unmarked}
+use Rattle.state.proofs.InUse.{in-use-only, in-use-all, in-use-rising}
+use Rattle.state.proofs.Walks.{putBelow, write-all, puts-length}
+use Rattle.state.proofs.Guards.{fault-marked, marks-fault, agrees-tells, equal-agrees, opens}
+use Rattle.state.proofs.Ready.{Ready, call-done, call-refused, check-ready, add-ready, use-ready, remove-ready}
+
+bytes-zero : (w : ℕ) → bytes w 0 ≡ replicate w 0
+unfolding bytes split
+bytes-zero zero = refl
+bytes-zero (suc w) = ap₂ _∷_ (ap (λ (n : ℕ). n % 2 ^ 8) (zero-div (2 ^ total (octets w)))) (bytes-zero w)
+
+-- ---- a hash that tags join
+
+tags-join : (h : Hash) (ts : List (List ℕ)) → h .number < 2 ^ 32 → foldl withTag h ts ≡ record { tag = foldl xor (h .tag) ts; number = (h .number + length ts) % 2 ^ 32 }
+unfolding withTag
+tags-join h [] l = let n : h .number ≡ (h .number + 0) % 2 ^ 32 = omega arith in λ i. record { tag = h .tag; number = n i }
+tags-join h (t ∷ ts) l =
+    let n : ((h .number + 1) % 2 ^ 32 + length ts) % 2 ^ 32 ≡ (h .number + suc (length ts)) % 2 ^ 32 = omega arith in
+    tags-join (withTag h t) ts (omega arith) ∙ (λ i. record { tag = foldl xor (xor (h .tag) t) ts; number = n i })
+
+module _ (tag : List ℕ → Entry → List ℕ) where
+  -- ---- entries taken, and entries put, one after the other
+
+  pub record Taken (s t : State) (es : List Entry) : Type 0 where
+    pub key : t .key ≡ s .key
+    pub put : t .put ≡ s .put
+    pub take : t .take ≡ foldl withTag (s .take) (map (tag (s .key)) es)
+    pub clock : t .clock ≡ s .clock
+    pub fault : (t .fault ≡ true) ↔ ((s .fault ≡ true) ⊎ Ahead (s .clock) es)
+    pub closed : t .closed ≡ s .closed
+
+  pub taken-each : (es : List Entry) (s : State) → Taken s (foldl (takeEntry tag) s es) es
+  unfolding takeEntry
+  taken-each [] s = record {
+    key = refl;
+    put = refl;
+    take = refl;
+    clock = refl;
+    fault = (inl, λ h. ⊎-elim (λ e. e) (λ a. absurd (List·Memᴰ·not-nil (a .1))) h);
+    closed = refl;
+  }
+  taken-each (e ∷ es) s = let r = taken-each es (takeEntry tag s e) in record {
+    key = r .key;
+    put = r .put;
+    take = r .take;
+    clock = r .clock;
+    fault = (
+      (λ h. ⊎-elim (λ f. ⊎-elim inl (λ l. inr (e, List·Memᴰ·head refl, l)) (fault-marked tag s e f)) (λ a. inr (a .0, List·Memᴰ·tail (a .1), a .2)) (r .fault .0 h)),
+      (λ h. r .fault .1 (again h)),
+    );
+    closed = r .closed;
+  }
+    where
+      again : (s .fault ≡ true) ⊎ Ahead (s .clock) (e ∷ es) → (takeEntry tag s e .fault ≡ true) ⊎ Ahead (s .clock) es
+      again (inl f) = inl (marks-fault tag s e (inl f))
+      again (inr (d, m, l)) = ⊎-elim (λ q. inl (marks-fault tag s e (inr (subst (λ (x : Entry). s .clock < x .stamp) q l)))) (λ m. inr (d, m, l)) (List·Memᴰ·cases-cons m)
+
+  pub put-each : (es : List Entry) (s : State) → foldl (putEntry tag) s es .put ≡ foldl withTag (s .put) (map (tag (s .key)) es)
+  unfolding putEntry
+  put-each [] s = refl
+  put-each (e ∷ es) s = put-each es (putEntry tag s e)
+
+  put-key : (es : List Entry) (s : State) → foldl (putEntry tag) s es .key ≡ s .key
+  unfolding putEntry
+  put-key [] s = refl
+  put-key (e ∷ es) s = put-key es (putEntry tag s e)
+
+unset : (b : Bool) → (b ≡ true → ⊥) → b ≡ false
+unset true h = absurd (h refl)
+unset false h = refl
+
+-- ---- marks
+
+marked-used : (s : State) (a : ℕ) → Marked s a → used (s .marks) a ≡ true
+unfolding used
+marked-used s a h = eq-eqb _ 1 h
+
+used-marks : (s : State) (a : ℕ) → used (s .marks) a ≡ true → Marked s a
+unfolding used
+used-marks s a u = eqb-true _ 1 u
+
+module _ (s t : State) (a : ℕ) (sixteen : length (s .marks) ≡ 16) (h : a < addresses) where
+  set-mark : t .marks ≡ marked (s .marks) a → (b : ℕ) → Marked t b ↔ ((b ≡ a) ⊎ Marked s b)
+  set-mark e b = (
+    (λ m. from (eqb b a) refl (sym f ∙ marked-used t b m)),
+    (λ m. used-marks t b (f ∙ ⊎-elim (λ q. rw (eq-eqb b a q)) (λ k. rw (marked-used s b k) (or-true (eqb b a))) m)),
+  )
+    where
+      f : used (t .marks) b ≡ (eqb b a || used (s .marks) b)
+      f = ap (λ (ws : List ℕ). used ws b) e ∙ used-marked (s .marks) a sixteen h b
+
+      from : (d : Bool) → eqb b a ≡ d → (eqb b a || used (s .marks) b) ≡ true → (b ≡ a) ⊎ Marked s b
+      from true q m = inl (eqb-true b a q)
+      from false q m = inr (used-marks s b (sym (rw q) ∙ m))
+
+  clear-mark : t .marks ≡ unmarked (s .marks) a → (b : ℕ) → Marked t b ↔ ((b ≢ a) × Marked s b)
+  clear-mark e b = (
+    (λ m. from (eqb b a) refl (sym f ∙ marked-used t b m)),
+    (λ m. used-marks t b (f ∙ rw (ne-eqb b a (m .0), marked-used s b (m .1)))),
+  )
+    where
+      f : used (t .marks) b ≡ (not (eqb b a) && used (s .marks) b)
+      f = ap (λ (ws : List ℕ). used ws b) e ∙ used-unmarked (s .marks) a sixteen h b
+
+      from : (d : Bool) → eqb b a ≡ d → (not (eqb b a) && used (s .marks) b) ≡ true → (b ≢ a) × Marked s b
+      from true q m = absurd (false≢true (sym (rw q) ∙ m))
+      from false q m = (eqb-false b a q, used-marks s b (sym (rw q) ∙ m))
+
+-- ---- a call that is done
+
+-- its rows do not hold, and it is what it is where none does
+done-is : (rows : List Row) (s : State) (m o : List ℕ) (x : Step) → call rows s m o x .seen .number ≡ 0 → (first rows ≡ 0) × (call rows s m o x ≡ x)
+done-is rows s m o x e = go (first rows) refl
+  where
+    go : (n : ℕ) → first rows ≡ n → (first rows ≡ 0) × (call rows s m o x ≡ x)
+    go zero q = (q, call-done rows s m o x q)
+    go (suc n) q =
+        let r = call-refused rows s m o x (λ z. let y : suc n ≡ 0 = sym q ∙ z in absurd (omega arith)) in
+        let y : suc n ≡ 0 = sym q ∙ sym (ap (λ (r : Step). r .seen .number) r) ∙ e in
+        absurd (omega arith)
+
+-- the marks are as they were, also where it is refused
+marks-kept : (rows : List Row) (s : State) (m o : List ℕ) (x : Step) → x .seen .state .marks ≡ s .marks → call rows s m o x .seen .state .marks ≡ s .marks
+unfolding call
+marks-kept rows s m o x e = go (first rows)
+  where
+    go : (n : ℕ) → done n x (step (seen n Nothing s m o) []) .seen .state .marks ≡ s .marks
+    go zero = e
+    go (suc n) = refl
+
+module _ (w : ℕ) (tag : List ℕ → Entry → List ℕ) where
+  joins : (key : List ℕ) (h : Hash) (es : List Entry) → h .number < 2 ^ 32 → foldl withTag h (map (tag key) es) ≡ joined w tag key h es
+  joins key h es l =
+      tags-join h (map (tag key) es) l
+      ∙ ap (λ (n : ℕ). record { tag = foldl xor (h .tag) (map (tag key) es); number = (h .number + n) % 2 ^ 32 }) (length-map es (tag key))
+
+  -- after takes alone, and after takes and a put
+  take-after : (s t : State) (es : List Entry) → Typed s → Taken tag s t es → After w tag s t es [] (s .clock)
+  take-after s t es y r = record {
+    key = r .key;
+    put = r .put ∙ joins (s .key) (s .put) [] (y .puts);
+    take = r .take ∙ joins (s .key) (s .take) es (y .takes);
+    clock = r .clock;
+    fault = r .fault;
+    closed = r .closed;
+  }
+
+  put-after : (s t : State) (es : List Entry) (e : Entry) → Typed s → Taken tag s t es → After w tag s (putEntry tag t e) es (e ∷ []) (e .stamp)
+  unfolding putEntry
+  put-after s t es e y r = record {
+    key = r .key;
+    put = ap₂ (λ (h : Hash) (k : List ℕ). withTag h (tag k e)) (r .put) (r .key) ∙ joins (s .key) (s .put) (e ∷ []) (y .puts);
+    take = r .take ∙ joins (s .key) (s .take) es (y .takes);
+    clock = refl;
+    fault = r .fault;
+    closed = r .closed;
+  }
+
+  other-marks : (s t : State) (es ps : List Entry) (c : ℕ) (ws : List ℕ) → After w tag s t es ps c → After w tag s (withMarks t ws) es ps c
+  unfolding withMarks
+  other-marks s t es ps c ws r = record { key = r .key; put = r .put; take = r .take; clock = r .clock; fault = r .fault; closed = r .closed }
+
+  -- ---- add, load, store and remove
+
+  module _ (s : State) (m : List ℕ) (a : ℕ) (y : Typed s) where
+    abbrev Add : List ℕ → Seen → Type 0
+    Add v x = After w tag s (x .state) [] (entry a v (s .clock + 1) ∷ []) (s .clock + 1) × (x .store ≡ withCell w m a (v ++ bytes w (s .clock + 1)))
+
+    add-effect : (v : List ℕ) → addOf w tag s m a v .seen .number ≡ 0 → Add v (addOf w tag s m a v .seen)
+    unfolding addOf added next writeEntry writeCell cellSize valueSize
+    add-effect v e =
+        subst (λ (r : Step). Add v (r .seen)) (sym (done-is (addRows w s m a v) s m [] _ e .1))
+        (other-marks s _ [] _ _ _ (put-after s s [] (entry a v (s .clock + 1)) y (taken-each tag [] s)), refl)
+
+    add-marks : (v : List ℕ) → addOf w tag s m a v .seen .number ≡ 0 → (b : ℕ) → Marked (addOf w tag s m a v .seen .state) b ↔ ((b ≡ a) ⊎ Marked s b)
+    unfolding addOf added withMarks
+    add-marks v e =
+        let d = done-is (addRows w s m a v) s m [] (added w tag s m a v) e in
+        set-mark s (addOf w tag s m a v .seen .state) a (y .words) (add-ready w s m a v (d .0) .0 .below) (ap (λ (r : Step). r .seen .state .marks) (d .1))
+
+    -- load and store: v is the value put, and o what is handed out
+    abbrev Exchange : List ℕ → List ℕ → Seen → Type 0
+    Exchange v o x =
+        After w tag s (x .state) (entryIn w m a ∷ []) (entry a v (s .clock + 1) ∷ []) (s .clock + 1)
+        × (x .store ≡ withCell w m a (v ++ bytes w (s .clock + 1))) × (x .out ≡ o)
+
+    load-effect : (o : List ℕ) → loadOf w tag s m a o .seen .number ≡ 0 → Exchange (valueIn w m a) (valueIn w m a) (loadOf w tag s m a o .seen)
+    unfolding loadOf loaded next takeEntry entryAt valueAt stampAt writeEntry writeCell cellSize valueSize
+    load-effect o e =
+        subst (λ (r : Step). Exchange (valueIn w m a) (valueIn w m a) (r .seen)) (sym (done-is (useRows w s m a o) s m o _ e .1))
+        (put-after s _ (entryIn w m a ∷ []) (entry a (valueIn w m a) (s .clock + 1)) y (taken-each tag (entryIn w m a ∷ []) s), refl, refl)
+
+    store-effect : (v : List ℕ) → storeOf w tag s m a v .seen .number ≡ 0 → Exchange v [] (storeOf w tag s m a v .seen)
+    unfolding storeOf stored next takeEntry entryAt valueAt stampAt writeEntry writeCell cellSize valueSize
+    store-effect v e =
+        subst (λ (r : Step). Exchange v [] (r .seen)) (sym (done-is (useRows w s m a v) s m [] _ e .1))
+        (put-after s _ (entryIn w m a ∷ []) (entry a v (s .clock + 1)) y (taken-each tag (entryIn w m a ∷ []) s), refl, refl)
+
+    abbrev Remove : Seen → Type 0
+    Remove x = After w tag s (x .state) (entryIn w m a ∷ []) [] (s .clock) × (x .store ≡ withCell w m a (replicate (28 + w) 0))
+
+    remove-effect : removeOf w tag s m a .seen .number ≡ 0 → Remove (removeOf w tag s m a .seen)
+    unfolding removeOf removed entryAt valueAt stampAt writeCell cellSize valueSize
+    remove-effect e =
+        subst (λ (r : Step). Remove (r .seen)) (sym (done-is (removeRows w s m a) s m [] _ e .1))
+        (other-marks s _ (entryIn w m a ∷ []) [] _ _ (take-after s _ (entryIn w m a ∷ []) y (taken-each tag (entryIn w m a ∷ []) s)),
+        ap (withCell w m a) (ap (λ (z : List ℕ). replicate 28 0 ++ z) (bytes-zero w) ∙ replicate-append-replicate 28 w 0))
+
+    remove-marks : removeOf w tag s m a .seen .number ≡ 0 → (b : ℕ) → Marked (removeOf w tag s m a .seen .state) b ↔ ((b ≢ a) × Marked s b)
+    unfolding removeOf removed withMarks
+    remove-marks e =
+        let d = done-is (removeRows w s m a) s m [] (removed w tag s m a) e in
+        clear-mark s (removeOf w tag s m a .seen .state) a (y .words) (remove-ready w s m a (d .0) .below) (ap (λ (r : Step). r .seen .state .marks) (d .1))
+
+  -- ---- check
+
+  -- what some bytes hold at an address, in the definitions' words
+  module _ (s : State) (m : List ℕ) (y : Typed s) where
+    takes-told : taken w (s .marks) m ≡ takenOf w tag s m
+    unfolding taken entryAt valueAt stampAt cellSize valueSize
+    takes-told = refl
+
+    all : Taken tag s (takeAll w tag s m) (takenOf w tag s m)
+    unfolding takeAll
+    all = subst (λ (es : List Entry). Taken tag s (foldl (takeEntry tag) s es) (takenOf w tag s m)) (sym takes-told) (taken-each tag (takenOf w tag s m) s)
+
+    -- an address in use is among those taken
+    among : (a : ℕ) → a < 1024 → Marked s a → List·Memᴰ (entryIn w m a) (takenOf w tag s m)
+    unfolding inUse addresses
+    among a h k = Memᴰ·map (entryIn w m) (in-use-all (s .marks) 1024 a h (marked-used s a k))
+
+    agreed : agrees (takeAll w tag s m) ≡ true → Agrees w tag s m
+    agreed e =
+        let h = agrees-tells (takeAll w tag s m) e in
+        let calm : (s .fault ≡ true) ⊎ Ahead (s .clock) (takenOf w tag s m) → ⊥ = λ f. false≢true (sym (h .1) ∙ all .fault .1 f) in
+        record {
+          hashes = sym (all .put) ∙ h .0 ∙ all .take ∙ joins (s .key) (s .take) (takenOf w tag s m) (y .takes);
+          faultless = unset (s .fault) (λ f. calm (inl f));
+          on-time = λ a l k. let n : s .clock < stampIn w m a → ⊥ = λ g. calm (inr (entryIn w m a, among a l k, g)) in omega arith;
+        }
+
+    agree : Agrees w tag s m → agrees (takeAll w tag s m) ≡ true
+    unfolding inUse addresses
+    agree g =
+        equal-agrees (takeAll w tag s m) (all .put ∙ g .hashes ∙ sym (all .take ∙ joins (s .key) (s .take) (takenOf w tag s m) (y .takes)))
+        (unset (takeAll w tag s m .fault) (λ f. ⊎-elim (λ e. false≢true (sym (g .faultless) ∙ e)) late (all .fault .0 f)))
+      where
+        late : Ahead (s .clock) (takenOf w tag s m) → ⊥
+        late (e, k, l) =
+            let r = Memᴰ·of-map (entryIn w m) (inUse (s .marks)) k in
+            let u = in-use-only (s .marks) 1024 (r .0) (r .1) in
+            let b = g .on-time (r .0) (u .0) (used-marks s (r .0) (u .1)) in
+            let q : stampIn w m (r .0) ≡ e .stamp = ap (λ (x : Entry). x .stamp) (r .2) in
+            omega arith
+
+  -- ---- the cells after an accepted check
+
+  module _ (ws m : List ℕ) (size : length m ≡ storeSize w) where
+    abbrev cellOver : List ℕ → ℕ → List ℕ
+    cellOver x a = take (cellSize w) (drop (cellSize w * a) x)
+
+    -- a cell that is not put again
+    cell-kept : (n a : ℕ) → n ≤ addresses → (a < n → used ws a ≡ false) → cellOver (putBelow w ws m n) a ≡ cellOver m a
+    unfolding putBelow writeEntry opening
+    cell-kept zero a h u = refl
+    cell-kept (suc n) a h u = go (used ws n) refl (cell-kept n a (omega arith) (λ l. u (omega arith)))
+      where
+        x : List ℕ
+        x = putBelow w ws m n
+
+        go : (b : Bool) → used ws n ≡ b → cellOver x a ≡ cellOver m a → cellOver (cond b (writeCell w x n (valueAt w m n) 1) x) a ≡ cellOver m a
+        go true e ih =
+            cell-other w x n (valueAt w m n) 1 h (puts-length w ws m n (omega arith) size) (value-length w m n h size) a
+            (λ q. false≢true (sym (u (omega arith)) ∙ ap (used ws) q ∙ e)) ∙ ih
+        go false e ih = ih
+
+    -- a cell that is
+    cell-put : (n a : ℕ) → n ≤ addresses → a < n → used ws a ≡ true → cellOver (putBelow w ws m n) a ≡ valueAt w m a ++ bytes w 1
+    unfolding putBelow writeEntry opening
+    cell-put zero a h l u = absurd (omega arith)
+    cell-put (suc n) a h l u = go (eqb a n) refl (cell-put n a (omega arith))
+      where
+        x : List ℕ
+        x = putBelow w ws m n
+
+        long : length x ≡ storeSize w
+        long = puts-length w ws m n (omega arith) size
+
+        go : (b : Bool) → eqb a n ≡ b → (a < n → used ws a ≡ true → cellOver x a ≡ valueAt w m a ++ bytes w 1)
+            → cellOver (cond (used ws n) (writeCell w x n (valueAt w m n) 1) x) a ≡ valueAt w m a ++ bytes w 1
+        go true e ih =
+            let q = eqb-true a n e in
+            rw (ap (used ws) (sym q) ∙ u, q) (cell-written w x n (valueAt w m n) 1 h long (value-length w m n h size))
+        go false e ih = let d : a ≢ n = eqb-false a n e in other (used ws n) (ih (omega arith) u)
+          where
+            other : (c : Bool) → cellOver x a ≡ valueAt w m a ++ bytes w 1 → cellOver (cond c (writeCell w x n (valueAt w m n) 1) x) a ≡ valueAt w m a ++ bytes w 1
+            other true r = cell-other w x n (valueAt w m n) 1 h long (value-length w m n h size) a (eqb-false a n e) ∙ r
+            other false r = r
+
+  module _ (s : State) (m : List ℕ) (y : Typed s) where
+    accepted : length m ≡ storeSize w → s .closed ≡ false → Agrees w tag s m → Accepted w tag s m (acceptance w tag s m .seen)
+    unfolding acceptance putAll reput opening opened emptyHash addresses cellSize valueSize valueAt
+    accepted size c g = record {
+      key = put-key tag (reput w (s .marks) m) (opened s);
+      put = put-each tag (reput w (s .marks) m) (opened s) ∙ joins (s .key) zeroHash (putOf w tag s m) (omega arith);
+      take = opens w tag s m .take;
+      clock = opens w tag s m .clock;
+      fault = opens w tag s m .fault ∙ g .faultless;
+      closed = opens w tag s m .closed ∙ c;
+      marks = opens w tag s m .marks;
+      size = ap length (write-all w s m) ∙ puts-length w (s .marks) m addresses (omega arith) size ∙ sym size;
+      used = λ a h k. ap (λ (x : List ℕ). cellIn w x a) (write-all w s m) ∙ cell-put (s .marks) m size addresses a (omega arith) h (marked-used s a k);
+      unused = λ a h k. ap (λ (x : List ℕ). cellIn w x a) (write-all w s m) ∙ cell-kept (s .marks) m size addresses a (omega arith) (λ l. unset (used (s .marks) a) (λ u. k (used-marks s a u)));
+    }
+
+    rejected : Rejected w tag s m (rejection w tag s m .seen)
+    unfolding rejection shut
+    rejected = record { key = refl; put = refl; take = refl; clock = refl; fault = refl; closed = refl; marks = refl; store = refl }
+
+    abbrev Checked : Seen → Type 0
+    Checked x = ((x .verdict ≡ Accept) × Agrees w tag s m × Accepted w tag s m x) ⊎ ((x .verdict ≡ Reject) × ¬ Agrees w tag s m × Rejected w tag s m x)
+
+    check-effect : checkOf w tag s m .seen .number ≡ 0 → Checked (checkOf w tag s m .seen)
+    unfolding checkOf acceptance rejection
+    check-effect e = subst (λ (r : Step). Checked (r .seen)) (sym (d .1)) (go (agrees (takeAll w tag s m)) refl)
+      where
+        d : (first (checkRows w s m) ≡ 0) × (checkOf w tag s m ≡ cond (agrees (takeAll w tag s m)) (acceptance w tag s m) (rejection w tag s m))
+        d = done-is (checkRows w s m) s m [] _ e
+
+        go : (b : Bool) → agrees (takeAll w tag s m) ≡ b → Checked (cond b (acceptance w tag s m) (rejection w tag s m) .seen)
+        go true q = let r = check-ready w s m (d .0) in let g = agreed s m y q in inl (refl, g, accepted (r .1) (r .0) g)
+        go false q = inr (refl, (λ g. false≢true (sym q ∙ agree s m y g)), rejected)
+
+  pub effects : Effects w tag (calls w tag)
+  unfolding inUse addresses loadOf loaded storeOf stored putEntry takeEntry
+  effects = record {
+    add = λ s m a v y e. add-effect s m a y v e;
+    add-marks = λ s m a v y e. add-marks s m a y v e;
+    load = λ s m a o y e. load-effect s m a y o e;
+    store = λ s m a v y e. let r = store-effect s m a y v e in (r .0, r .1);
+    remove = λ s m a y e. remove-effect s m a y e;
+    remove-marks = λ s m a y e. remove-marks s m a y e;
+    load-marks = λ s m a o. marks-kept (useRows w s m a o) s m o (loaded w tag s m a) refl;
+    store-marks = λ s m a v. marks-kept (useRows w s m a v) s m [] (stored w tag s m a v) refl;
+    check = λ s m y e. check-effect s m y e;
+    in-use = λ s y. (
+      in-use-rising (s .marks) 1024,
+      λ a. ((λ k. let r = in-use-only (s .marks) 1024 a k in (r .0, used-marks s a (r .1))), (λ k. in-use-all (s .marks) 1024 a (k .0) (marked-used s a (k .1)))),
+    );
+  }
