@@ -8,6 +8,7 @@ use mathlib.Core.Logic.{_⊎_, inl, inr}
 use Prim.Native.Nat.{ℕ, _≤_}
 use native.Mathlib.Omega.{arith}
 use Rattle.refusal.specs.Refusal.{first}
+use Rattle.state.specs.Sizes.{addresses}
 use Rattle.state.specs.Cells.{Entry}
 use Rattle.state.specs.Counts.{times}
 use Rattle.state.specs.Start.{fresh, startOf}
@@ -20,13 +21,14 @@ use Rattle.run.specs.Demand3.{Latest, stateAfter, result, Done, Accepts,
 use Rattle.run.proofs.Lists.{by-last, place-stays}
 use Rattle.run.proofs.Logs.{Log, noLog, follow}
 use Rattle.run.proofs.Balance.{Balance}
+use Rattle.run.proofs.Walk.{takenL}
 use Rattle.run.proofs.Steps.{rowsOf, whenDone, by-call, step-done, done-number, number-done}
 use Rattle.run.proofs.Runs.{by-start, logOf, by-step, latest-here, latest-keeps}
 use Rattle.run.proofs.Moves.{there}
 use Rattle.run.proofs.Always.{not-closed, stamps, clock-bounded}
 use Rattle.run.proofs.Told.{run-hashed}
 use Rattle.run.proofs.Sound.{all}
-use Rattle.run.proofs.Honest.{Holds, Fine, agreed, done-fine}
+use Rattle.run.proofs.Honest.{Holds, Fine, even, agreed, done-fine}
 
 pub idle-done : (w : ℕ) (tag : List ℕ → Entry → List ℕ) (c : Call) (s : State) (m : List ℕ) → moves c ≡ false → whenDone w tag s m c ≡ idle s m
 idle-done w tag (add a v) s m e = absurd (true≢false e)
@@ -94,7 +96,7 @@ module _ (w : ℕ) (one : 1 ≤ w) (tag : List ℕ → Entry → List ℕ) (key 
   done-more run x u f e false k o =
       subst (λ (r : Step). FineIf (run ++ (x ∷ [])) (r .seen .state) (follow (l run x) (r .events))) (sym (idle-done w tag (x .call) (s run x) (x .bytes) k)) (still run x (λ d. false≢true (sym k ∙ d .1)) f) o
 
-  unaltered-part : (p q : List Lent) → Unaltered w tag key (p ++ q) → Unaltered w tag key p
+  pub unaltered-part : (p q : List Lent) → Unaltered w tag key (p ++ q) → Unaltered w tag key p
   unaltered-part p q u before later x e = u before (later ++ q) x (place-stays p before x later q e)
 
   fine : (run : List Lent) → Unaltered w tag key run → FineIf run (stateAfter w tag key run) (logOf w tag key run)
@@ -114,17 +116,27 @@ module _ (w : ℕ) (one : 1 ≤ w) (tag : List ℕ → Entry → List ℕ) (key 
           (λ e. done-more run x u f e (moves (x .call)) refl)
           (λ n e. still run x (λ d. let z = number-done w tag (s run x) (x .bytes) (x .call) (d .0) in absurd (omega arith)) f))
 
-  -- the second half
-  pub complete-at : (run : List Lent) (m : List ℕ) → Unaltered w tag key (run ++ (lent check m ∷ [])) → Done w tag key run (lent check m) → Accepts w tag key run m
-  unfolding acceptance
-  complete-at run m u d =
-      let x = lent check m in
-      let e = number-done w tag (s run x) m check d in
-      let c = not-closed w (s run x) m check refl e in
-      let a = all w tag key run c in
-      let k = agreed w one tag (s run x) (l run x) m (stamps w tag key run) (run-hashed w tag key run c) (a .fit) (lent-fine run x u (fine run (unaltered-part run (x ∷ []) u)) (d, refl) c) in
-      let q : result w tag key run x ≡ acceptance w tag (s run x) m = step-done w tag (s run x) m check e ∙ rw k in
-      ap (λ (r : Step). r .seen .verdict) q
+  -- a check
+  module _ (run : List Lent) (m : List ℕ) (u : Unaltered w tag key (run ++ (lent check m ∷ []))) (d : Done w tag key run (lent check m)) where
+    unclosed : stateAfter w tag key run .closed ≡ false
+    unclosed = not-closed w (stateAfter w tag key run) m check refl (number-done w tag (stateAfter w tag key run) m check d)
+
+    check-lent : Fine w (stateAfter w tag key run) (logOf w tag key run) m
+    check-lent = lent-fine run (lent check m) u (fine run (unaltered-part run (lent check m ∷ []) u)) (d, refl) unclosed
+
+    -- what was put is what was taken
+    pub check-even : (c : Entry) → let k = takenL w (stateAfter w tag key run) m (logOf w tag key run) addresses in times c (k .puts) ≡ times c (k .takes)
+    check-even =
+        even w one tag (stateAfter w tag key run) (logOf w tag key run) m (stamps w tag key run) (run-hashed w tag key run unclosed) (all w tag key run unclosed .fit) check-lent
+
+    -- the second half
+    pub complete-at : Accepts w tag key run m
+    unfolding acceptance
+    complete-at =
+        let s = stateAfter w tag key run in
+        let k = agreed w one tag s (logOf w tag key run) m (stamps w tag key run) (run-hashed w tag key run unclosed) (all w tag key run unclosed .fit) check-lent in
+        let q : result w tag key run (lent check m) ≡ acceptance w tag s m = step-done w tag s m check (number-done w tag s m check d) ∙ rw k in
+        ap (λ (r : Step). r .seen .verdict) q
 
   pub complete : (run : List Lent) → Unaltered w tag key run → EachCheck w tag key run
   complete run u before later m e d =

@@ -107,13 +107,17 @@ module _ (w : ℕ) (one : 1 ≤ w) (tag : List ℕ → Entry → List ℕ) (s : 
       go true u = taken-gone w s m l addresses a (used-below (s .marks) a (fit .sixteen) u) u
       go false u = taken-none w s m l addresses a (free s l a fit u)
 
+  -- so each entry was put as often as taken
+  pub even : (c : Entry) → times c (takenL w s m l addresses .puts) ≡ times c (takenL w s m l addresses .takes)
+  even c =
+      let z : heldTimes (takenL w s m l addresses .held (c .address)) c ≡ 0 = ap (λ (o : Option Entry). heldTimes o c) (taken-all (c .address)) in
+      omega (arith, taken-balance addresses c)
+
   pub agreed : agrees (takeAll w tag s m) ≡ true
   unfolding agrees
   agreed =
       let h = subst (λ (x : State). Hashed tag x (takenL w s m l addresses)) (sym (take-all w tag s m)) (taken-hashed w s m tag l hashed addresses) in
       let k = takenL w s m l addresses in
-      let even : (c : Entry) → times c (k .puts) ≡ times c (k .takes) =
-      λ c. let z : heldTimes (k .held (c .address)) c ≡ 0 = ap (λ (o : Option Entry). heldTimes o c) (taken-all (c .address)) in omega (arith, taken-balance addresses c) in
       let t = takeAll w tag s m in
       rw (equal-sameHash (t .put) (t .take) (h .put ∙ same-counts (tag (t .key)) (k .puts) (k .takes) even ∙ sym (h .take)), ap (λ (x : State). x .fault) (take-all w tag s m) ∙ taken-faultless addresses)
 

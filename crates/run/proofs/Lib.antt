@@ -18,3 +18,4 @@ pub mod Worked
 pub mod Edges
 pub mod Sized
 pub mod Ties
+pub mod Sense

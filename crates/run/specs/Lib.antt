@@ -1,3 +1,4 @@
 pub mod Calls
 pub mod Demand3
 pub mod Exact
+pub mod Sense
