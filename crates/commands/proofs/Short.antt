@@ -7,10 +7,10 @@ use native.Mathlib.Omega.{arith}
 use borrow.Author.Tests.{ltb-true}
 use lib.Dec.{T, ltb}
 use Rattle.refusal.specs.Refusal.{Row, first}
-use Rattle.state.specs.Sizes.{width, addresses}
+use Rattle.state.specs.Sizes.{width}
 use Rattle.state.specs.Step.{Step}
 use Rattle.state.specs.Moves.{addressRow, addRows, useRows, removeRows, call, added, addOf, loaded, loadOf, stored, storeOf, removed, removeOf}
-use Rattle.state.specs.Check.{checkRows, agrees, takeBelow, acceptance, rejection, checkOf}
+use Rattle.state.specs.Check.{checkRows, agrees, takeAll, acceptance, rejection, checkOf}
 use Rattle.state.specs.declared.State.{State}
 use Rattle.state.specs.declared.Verdict.{Verdict}
 use Rattle.state.specs.declared.Verdict.the-variants.{Accept, Reject, Nothing}
@@ -45,7 +45,7 @@ call-small rows s m o x t e = go (first rows) refl
 
 check-small : (s : State) (m : List ℕ) → checkOf width tag s m .seen .number < 10
 unfolding small checkOf checkRows acceptance rejection
-check-small s m = call-small (checkRows width s m) s m [] _ tt (go (agrees (takeBelow width tag s m addresses)))
+check-small s m = call-small (checkRows width s m) s m [] _ tt (go (agrees (takeAll width tag s m)))
   where
     go : (b : Bool) → cond b (acceptance width tag s m) (rejection width tag s m) .seen .number ≡ 0
     go true = refl

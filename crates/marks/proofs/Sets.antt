@@ -18,7 +18,7 @@ use Rattle.marks.specs.Sets.{Distinct, Counted, Lowest, AllUsed}
 
 -- ---- the count
 
-count-length : (ws : List ℕ) (n : ℕ) → countBelow n ws ≡ length (usedBelow ws n)
+pub count-length : (ws : List ℕ) (n : ℕ) → countBelow n ws ≡ length (usedBelow ws n)
 unfolding countBelow usedBelow
 count-length ws zero = refl
 count-length ws (suc n) = step (used ws n) (count-length ws n)

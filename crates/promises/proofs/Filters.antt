@@ -11,30 +11,38 @@ use Rattle.refusal.specs.Refusal.{Filled, filled, first}
 use Rattle.filter.specs.Filter.{topOf, FieldsFit, partsIn, spareIn, filterIn, bytesOf, setPast, filterRows, unpackRows, packOf, unpackOf}
 use Rattle.filter.specs.declared.Family.{Family}
 use Rattle.filter.specs.declared.Action.{Action}
-use Rattle.promises.specs.Filters.{permit, Example6, Example7, Example8, Example9, Example10, deny11, Example11, zeros, ZerosLawful}
+use Rattle.promises.specs.Filters.{permit, unequal, ExampleUnequal, ExampleHost, Example6, Example7, Example8, Example9, Example10, deny11, Example11, zeros, ZerosLawful}
 use Rattle.filter.proofs.Calls.{pack-refused, pack-done}
 use Rattle.filter.proofs.Fields.{written, front-number, word-of}
 
-pub example-6 : Example6
+pub example-6 : Example6 packOf unpackOf
 unfolding total join split number bytes partsIn bytesOf filterIn spareIn setPast filterRows unpackRows unpackOf
 example-6 = ((λ out l. sym (pack-done (permit 0 24 24 64496) out l refl)), refl)
 
-pub example-7 : Example7
+pub example-unequal : ExampleUnequal packOf unpackOf
+unfolding total join split number bytes partsIn bytesOf filterIn spareIn setPast filterRows unpackRows unpackOf
+example-unequal = ((λ out l. sym (pack-done unequal out l refl)), refl)
+
+pub example-host : ExampleHost packOf unpackOf
+unfolding total join split number bytes partsIn bytesOf filterIn spareIn setPast filterRows unpackRows unpackOf
+example-host = ((λ out l. sym (pack-done (permit 1 32 32 64496) out l refl)), refl)
+
+pub example-7 : Example7 unpackOf
 unfolding total join split number bytes partsIn bytesOf filterIn spareIn setPast filterRows unpackRows unpackOf
 example-7 = refl
 
-pub example-8 : Example8
+pub example-8 : Example8 packOf unpackOf
 unfolding total join split number bytes partsIn bytesOf filterIn spareIn setPast filterRows unpackRows unpackOf
 example-8 = (
   ((λ out l. sym (pack-refused (permit 0 33 33 64496) out 13 l refl (λ x. omega arith))), refl),
   ((λ out l. sym (pack-refused (permit 0 25 24 64496) out 13 l refl (λ x. omega arith))), refl),
 )
 
-pub example-9 : Example9
+pub example-9 : Example9 packOf unpackOf
 unfolding total join split number bytes partsIn bytesOf filterIn spareIn setPast filterRows unpackRows unpackOf
 example-9 = ((λ out l. sym (pack-refused (permit 1 24 24 64496) out 14 l refl (λ x. omega arith))), refl)
 
-pub example-10 : Example10
+pub example-10 : Example10 packOf unpackOf
 unfolding total join split number bytes partsIn bytesOf filterIn spareIn setPast filterRows unpackRows unpackOf
 example-10 = ((λ out l. sym (pack-refused (permit 0 24 24 0) out 15 l refl (λ x. omega arith))), refl)
 
@@ -45,7 +53,7 @@ rows-11 : (a s : ℕ) → 0 < a → first (filterRows (deny11 a s)) ≡ 0
 unfolding filterRows setPast number join total
 rows-11 a s h = simp (ne-eqb a 0 (λ e. omega arith))
 
-pub example-11 : Example11
+pub example-11 : Example11 packOf
 example-11 a s p h g out l =
     let e : packOf (deny11 a s) out ≡ filled 0 (bytesOf (deny11 a s)) = sym (pack-done (deny11 a s) out l (rows-11 a s p)) in
     (ap (λ (x : Filled). x .number) e, ap (λ (x : Filled). take 4 (x .out)) e ∙ ap (take 4) (sym begins))
@@ -65,5 +73,5 @@ zeros-rows : (f : Family) (x : Action) (l a : ℕ) → l ≤ topOf f → 0 < a �
 unfolding filterRows setPast number join total
 zeros-rows f x l a h p = simp (le-leb 0 l (omega arith), le-leb l (topOf f) h, ne-eqb a 0 (λ e. omega arith))
 
-pub zeros-lawful : ZerosLawful
+pub zeros-lawful : ZerosLawful packOf
 zeros-lawful f x l a h p out e = sym (ap (λ (x : Filled). x .number) (pack-done (zeros f x l a) out e (zeros-rows f x l a h p)))

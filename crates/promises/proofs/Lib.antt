@@ -1,4 +1,7 @@
+pub mod Tied
 pub mod Filters
-pub mod Numbers
 pub mod Examples
-pub mod Demands
+pub mod FirstDemand
+pub mod SecondDemand
+pub mod ThirdDemand
+pub mod Pintlecup

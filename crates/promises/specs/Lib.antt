@@ -1,4 +1,8 @@
+pub mod Library
+pub mod Tied
 pub mod Filters
 pub mod Examples
-pub mod Numbers
-pub mod Demands
+pub mod FirstDemand
+pub mod SecondDemand
+pub mod ThirdDemand
+pub mod Pintlecup

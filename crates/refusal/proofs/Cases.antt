@@ -1,12 +1,13 @@
 -- Rows that test conditions, one by one and under the same numbers, give the number of the first condition that holds: by induction on the rows.
 -- Assumes nothing.
 use mathlib.Core.Path.{_≡_, refl, sym, _∙_}
-use mathlib.Core.Bool.{Bool, true, false, cond, not, false≢true}
+use mathlib.Core.Bool.{Bool, true, false, cond, not, _||_, false≢true, true≢false}
 use mathlib.Core.List.{List, [], _∷_}
 use mathlib.Core.Logic.{_⊎_, inl, inr, _≢_}
-use Prim.Native.Nat.{ℕ}
-use lib.Dec.{eqb}
-use borrow.Author.Tests.{eqb-true, eqb-false, not-true, not-false}
+use Prim.Native.Nat.{ℕ, _<_}
+use native.Mathlib.Omega.{arith}
+use lib.Dec.{eqb, ltb}
+use borrow.Author.Tests.{eqb-true, eqb-false, ltb-true, ltb-false, not-true, not-false}
 use Rattle.refusal.specs.Refusal.{Row, when, first}
 use Rattle.refusal.specs.Cases.{Case, given, FirstOf}
 
@@ -24,6 +25,21 @@ equal n x y = record { number = refl; yes = eqb-true x y; no = eqb-false x y }
 
 pub differ : (n x y : ℕ) → Tests (when n (not (eqb x y))) (given n (x ≢ y))
 differ n x y = record { number = refl; yes = λ e. eqb-false x y (not-true (eqb x y) e); no = λ e h. h (eqb-true x y (not-false (eqb x y) e)) }
+
+pub above : (n x y : ℕ) → Tests (when n (ltb x y)) (given n (x < y))
+above n x y = record { number = refl; yes = ltb-true x y; no = λ e h. let k = ltb-false x y e in omega arith }
+
+pub either : (n : ℕ) {s t : Bool} {p q : Type 0} → Tests (when n s) (given n p) → Tests (when n t) (given n q) → Tests (when n (s || t)) (given n (p ⊎ q))
+either n {s} {t} {p} {q} f g = record { number = refl; yes = yes s refl; no = no s refl }
+  where
+    yes : (b : Bool) → s ≡ b → (b || t) ≡ true → p ⊎ q
+    yes true e h = inl (f .yes e)
+    yes false e h = inr (g .yes h)
+
+    no : (b : Bool) → s ≡ b → (b || t) ≡ false → p ⊎ q → ⊥
+    no true e h k = true≢false h
+    no false e h (inl k) = f .no e k
+    no false e h (inr k) = g .no h k
 
 abbrev pub TestsAll : List Row → List Case → Type 0
 TestsAll [] [] = Unit

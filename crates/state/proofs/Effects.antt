@@ -2,13 +2,14 @@
 -- claimed, and a check's verdict is told by the entry state and the bytes. Assumes nothing.
 use mathlib.Core.Path.{_≡_, refl, sym, ap, ap₂, _∙_, subst}
 use mathlib.Core.Bool.{Bool, true, false, cond, not, _&&_, _||_, or-true, false≢true}
-use mathlib.Core.List.{List, [], _∷_, _++_, map, foldl, List·Memᴰ, List·Memᴰ·head, List·Memᴰ·tail, List·Memᴰ·not-nil, List·Memᴰ·cases-cons, Memᴰ·map, Memᴰ·of-map}
+use mathlib.Core.List.{List, [], _∷_, _++_, map, foldl, append-nil, List·Memᴰ, List·Memᴰ·head, List·Memᴰ·tail, List·Memᴰ·not-nil, List·Memᴰ·cases-cons, Memᴰ·map, Memᴰ·of-map}
 use mathlib.Core.Logic.{_⊎_, inl, inr, ⊎-elim, _↔_, _≢_}
 use Prim.Native.Nat.{ℕ, zero, suc, _+_, _*_, _%_, _^_, _<_, _≤_}
-use native.Mathlib.Nat.{zero-div}
+use native.Mathlib.Nat.{zero-add, zero-div}
 use native.Mathlib.Omega.{arith}
 use lib.Dec.{eqb}
 use lib.ListN.{length, take, drop, replicate, length-map, replicate-append-replicate}
+use lib.Seq.{append-snoc}
 use borrow.Author.Tests.{eqb-true, eqb-false, eq-eqb, ne-eqb}
 use Rattle.refusal.specs.Refusal.{Row, first, done}
 use Rattle.octets.specs.Layout.{total, split, octets, bytes}
@@ -16,7 +17,7 @@ use Rattle.octets.specs.Places.{xor}
 use Rattle.state.specs.Sizes.{addresses, valueSize, cellSize, storeSize}
 use Rattle.state.specs.Marks.{used, marked, unmarked, inUse}
 use Rattle.state.specs.Cells.{Entry, entry, valueAt, stampAt, entryAt, writeCell, writeEntry}
-use Rattle.state.specs.Multiset.{emptyHash, withTag}
+use Rattle.state.specs.Multiset.{hash, emptyHash, withTag}
 use Rattle.state.specs.Step.{Seen, seen, Step, step, withMarks, shut, next, takeEntry, putEntry}
 use Rattle.state.specs.Moves.{addRows, useRows, removeRows, call, added, loaded, stored, removed, addOf, loadOf, storeOf, removeOf}
 use Rattle.state.specs.Check.{checkRows, taken, opening, reput, opened, agrees, writeAll, takeAll, putAll, acceptance, rejection, checkOf}
@@ -27,6 +28,7 @@ use Rattle.state.specs.declared.Hash.{Hash}
 use Rattle.state.specs.declared.State.{State}
 use Rattle.state.specs.declared.Verdict.the-variants.{Accept, Reject, Nothing}
 use Rattle.state.proofs.Cells.{cell-written, cell-other, value-length}
+use Rattle.state.proofs.Multiset.{hash-none, hash-last}
 use Rattle.state.proofs.Marks.{used-marked, used-unmarked}
 use Rattle.state.proofs.InUse.{in-use-only, in-use-all, in-use-rising}
 use Rattle.state.proofs.Walks.{putBelow, write-all, puts-length}
@@ -46,6 +48,18 @@ tags-join h [] l = let n : h .number ≡ (h .number + 0) % 2 ^ 32 = omega arith 
 tags-join h (t ∷ ts) l =
     let n : ((h .number + 1) % 2 ^ 32 + length ts) % 2 ^ 32 ≡ (h .number + suc (length ts)) % 2 ^ 32 = omega arith in
     tags-join (withTag h t) ts (omega arith) ∙ (λ i. record { tag = foldl xor (xor (h .tag) t) ts; number = n i })
+
+-- the hash of a multiset is the hash of nothing that all its tags have joined
+hash-folds : (tag : Entry → List ℕ) (p es : List Entry) → foldl withTag (hash tag p) (map tag es) ≡ hash tag (p ++ es)
+hash-folds tag p [] = ap (hash tag) (sym (append-nil p))
+hash-folds tag p (e ∷ es) =
+    ap (λ (h : Hash). foldl withTag h (map tag es)) (sym (hash-last tag p e)) ∙ hash-folds tag (p ++ (e ∷ [])) es ∙ ap (hash tag) (append-snoc p e es)
+
+pub hash-joined : (tag : Entry → List ℕ) (es : List Entry) → hash tag es ≡ record { tag = foldl xor (replicate 32 0) (map tag es); number = length es % 2 ^ 32 }
+unfolding emptyHash
+hash-joined tag es =
+    sym (hash-folds tag [] es) ∙ ap (λ (h : Hash). foldl withTag h (map tag es)) (hash-none tag) ∙ tags-join zeroHash (map tag es) (omega arith)
+    ∙ ap (λ (n : ℕ). record { tag = foldl xor (replicate 32 0) (map tag es); number = n % 2 ^ 32 }) (zero-add (length (map tag es)) ∙ length-map es tag)
 
 module _ (tag : List ℕ → Entry → List ℕ) where
   -- ---- entries taken, and entries put, one after the other
@@ -94,17 +108,17 @@ module _ (tag : List ℕ → Entry → List ℕ) where
   put-key [] s = refl
   put-key (e ∷ es) s = put-key es (putEntry tag s e)
 
-unset : (b : Bool) → (b ≡ true → ⊥) → b ≡ false
+pub unset : (b : Bool) → (b ≡ true → ⊥) → b ≡ false
 unset true h = absurd (h refl)
 unset false h = refl
 
 -- ---- marks
 
-marked-used : (s : State) (a : ℕ) → Marked s a → used (s .marks) a ≡ true
+pub marked-used : (s : State) (a : ℕ) → Marked s a → used (s .marks) a ≡ true
 unfolding used
 marked-used s a h = eq-eqb _ 1 h
 
-used-marks : (s : State) (a : ℕ) → used (s .marks) a ≡ true → Marked s a
+pub used-marks : (s : State) (a : ℕ) → used (s .marks) a ≡ true → Marked s a
 unfolding used
 used-marks s a u = eqb-true _ 1 u
 
@@ -138,7 +152,7 @@ module _ (s t : State) (a : ℕ) (sixteen : length (s .marks) ≡ 16) (h : a < a
 -- ---- a call that is done
 
 -- its rows do not hold, and it is what it is where none does
-done-is : (rows : List Row) (s : State) (m o : List ℕ) (x : Step) → call rows s m o x .seen .number ≡ 0 → (first rows ≡ 0) × (call rows s m o x ≡ x)
+pub done-is : (rows : List Row) (s : State) (m o : List ℕ) (x : Step) → call rows s m o x .seen .number ≡ 0 → (first rows ≡ 0) × (call rows s m o x ≡ x)
 done-is rows s m o x e = go (first rows) refl
   where
     go : (n : ℕ) → first rows ≡ n → (first rows ≡ 0) × (call rows s m o x ≡ x)
@@ -231,9 +245,10 @@ module _ (w : ℕ) (tag : List ℕ → Entry → List ℕ) where
     remove-effect : removeOf w tag s m a .seen .number ≡ 0 → Remove (removeOf w tag s m a .seen)
     unfolding removeOf removed entryAt valueAt stampAt writeCell cellSize valueSize
     remove-effect e =
-        subst (λ (r : Step). Remove (r .seen)) (sym (done-is (removeRows w s m a) s m [] _ e .1))
-        (other-marks s _ (entryIn w m a ∷ []) [] _ _ (take-after s _ (entryIn w m a ∷ []) y (taken-each tag (entryIn w m a ∷ []) s)),
-        ap (withCell w m a) (ap (λ (z : List ℕ). replicate 28 0 ++ z) (bytes-zero w) ∙ replicate-append-replicate 28 w 0))
+        subst (λ (r : Step). Remove (r .seen)) (sym (done-is (removeRows w s m a) s m [] _ e .1)) (
+          other-marks s _ (entryIn w m a ∷ []) [] _ _ (take-after s _ (entryIn w m a ∷ []) y (taken-each tag (entryIn w m a ∷ []) s)),
+          ap (withCell w m a) (ap (λ (z : List ℕ). replicate 28 0 ++ z) (bytes-zero w) ∙ replicate-append-replicate 28 w 0),
+        )
 
     remove-marks : removeOf w tag s m a .seen .number ≡ 0 → (b : ℕ) → Marked (removeOf w tag s m a .seen .state) b ↔ ((b ≢ a) × Marked s b)
     unfolding removeOf removed withMarks

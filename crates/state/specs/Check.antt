@@ -1,6 +1,6 @@
 -- 01, Check. Over the stamp's width w and the tag. What a check takes and what an accepted one puts are two lists; the state, the store and the events are
 -- made of these. Assumes nothing.
-use mathlib.Core.Bool.{Bool, cond, not, _&&_}
+use mathlib.Core.Bool.{Bool, true, false, cond, not, _&&_}
 use mathlib.Core.List.{List, [], _∷_, _++_, map, foldl}
 use mathlib.Core.Option.{Option, none, some}
 use Prim.Native.Nat.{ℕ}
@@ -19,6 +19,12 @@ abbrev pub verdictNumber : Verdict → Option ℕ
 verdictNumber Accept = some 0
 verdictNumber Reject = some 0
 verdictNumber Nothing = none
+
+-- and what it carries: accept, reject, or no verdict
+abbrev pub verdictAccepts : Verdict → Option Bool
+verdictAccepts Accept = some true
+verdictAccepts Reject = some false
+verdictAccepts Nothing = none
 
 unfoldable pub checkRows : ℕ → State → List ℕ → List Row
 checkRows w s m = shutRow s ∷ storeRow w m ∷ []

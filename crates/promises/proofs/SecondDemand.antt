@@ -1,0 +1,51 @@
+-- Each clause is proved where its definitions stand. Assumes nothing.
+use mathlib.Core.Path.{_≡_, refl, sym, ap, _∙_}
+use mathlib.Core.List.{List, [], _∷_, _++_, map, foldl, append-nil}
+use Prim.Native.Nat.{ℕ, _%_, _^_, _≤_}
+use native.Mathlib.Omega.{arith}
+use lib.ListN.{length, replicate}
+use borrow.Author.Tests.{eq-eqb, le-ltb}
+use Rattle.refusal.specs.Refusal.{filled}
+use Rattle.constants.proofs.Rule.{K-rule, H0-rule}
+use Rattle.sha256.specs.Sha256.{sha256, digestOf}
+use Rattle.hmac.specs.Hmac.{hmac, macOf}
+use Rattle.state.specs.Sizes.{valueSize}
+use Rattle.state.specs.Multiset.{message}
+use Rattle.state.proofs.Multiset.{same-counts}
+use Rattle.state.proofs.Messages.{message-injective}
+use Rattle.state.proofs.Effects.{effects, hash-joined}
+use Rattle.entries.specs.Tag.{tagOf, tag}
+use Rattle.filter.proofs.Trips.{one-to-one}
+use Rattle.going.proofs.Compares.{compared}
+use Rattle.run.proofs.Exact.{one-period, state-exact, check-exact}
+use Rattle.promises.specs.Library.{library}
+use Rattle.promises.specs.SecondDemand.{SecondDemand}
+use Rattle.promises.proofs.Filters.{zeros-lawful}
+
+digests : (m out : List ℕ) → length m ≤ 8192 → length out ≡ 32 → digestOf m out ≡ filled 0 (sha256 m)
+unfolding digestOf
+digests m out h e = simp (le-ltb 8192 (length m) h, eq-eqb (length out) 32 e)
+
+macs : (k m out : List ℕ) → length k ≤ 1024 → length m ≤ 4096 → length out ≡ 32 → macOf k m out ≡ filled 0 (hmac k m)
+unfolding macOf
+macs k m out g h e = simp (le-ltb 1024 (length k) g, le-ltb 4096 (length m) h, eq-eqb (length out) 32 e)
+
+pub second-demand : SecondDemand tag library
+unfolding message tagOf valueSize
+second-demand = record {
+  digest = digests;
+  round-constants = K-rule;
+  starting-words = H0-rule;
+  mac = macs;
+  tags = λ key e. refl;
+  one-entry = λ d e f g. message-injective 2 d e f g;
+  hashes = λ key es. hash-joined (tag key) es;
+  same-hash = λ key. same-counts (tag key);
+  effects = effects 2 tag;
+  check-exactly = check-exact 2 tag;
+  state-exactly = state-exact 2 tag;
+  one-period = one-period;
+  filters = one-to-one;
+  zeros-lawful = zeros-lawful;
+  comparison = compared;
+}

@@ -1,0 +1,23 @@
+-- A run's step is the calls' definitions; the demand is proved for every width and every tag, so for these. Assumes nothing.
+use mathlib.Core.Path.{refl}
+use native.Mathlib.Omega.{arith}
+use Rattle.entries.specs.Tag.{tag}
+use Rattle.run.specs.Calls.{step, after}
+use Rattle.run.proofs.Demand3.{demand3}
+use Rattle.run.proofs.Sense.{honest-no-collision, unused-may-change}
+use Rattle.promises.specs.Library.{library}
+use Rattle.promises.specs.ThirdDemand.{ThirdDemand}
+
+pub third-demand : ThirdDemand tag library
+unfolding step after
+third-demand = record {
+  start = λ key. refl;
+  add = λ s m a v. refl;
+  load = λ s m a o. refl;
+  store = λ s m a v. refl;
+  remove = λ s m a. refl;
+  check = λ s m. refl;
+  demand = demand3 2 (omega arith) tag;
+  honest = honest-no-collision 2 (omega arith) tag;
+  unused = unused-may-change 2 (omega arith) tag;
+}

@@ -1,0 +1,53 @@
+-- Demand 2. In our words: the digest is FIPS 180-4's SHA-256, the keyed tag is RFC 2104's HMAC, and the multiset hash is the source's definition 4.4 with no
+-- nonce. A check accepts exactly when both hashes agree and no stamp ran ahead of the clock. A lawful filter record has one form of 28 bytes, and 28 lawful
+-- bytes give one filter record.
+--
+-- `sha256`, `hmac` and the layout of a filter record are definitions, in the standards' and the rules' order; here they are what the library's calls give.
+-- Assumes nothing.
+use mathlib.Core.Path.{_≡_}
+use mathlib.Core.List.{List, [], _∷_, _++_, map, foldl}
+use Prim.Native.Nat.{ℕ, _%_, _≤_}
+use lib.ListN.{length, replicate}
+use Rattle.octets.specs.Layout.{bytes}
+use Rattle.octets.specs.Places.{xor}
+use Rattle.refusal.specs.Refusal.{filled}
+use Rattle.constants.specs.Constants.{KRule, H0Rule}
+use Rattle.sha256.specs.Sha256.{sha256}
+use Rattle.hmac.specs.Hmac.{hmac}
+use Rattle.state.specs.Cells.{Entry}
+use Rattle.state.specs.Multiset.{Fits, hash}
+use Rattle.state.specs.Counts.{times}
+use Rattle.state.specs.Effects.{Effects}
+use Rattle.filter.specs.Promises.{OneToOne}
+use Rattle.going.specs.Going.{Compared}
+use Rattle.run.specs.Exact.{OnePeriod, StateExact, CheckExact}
+use Rattle.promises.specs.Library.{Library}
+use Rattle.promises.specs.Filters.{ZerosLawful}
+
+-- an entry's message of 33 bytes: 01, the address in 2, the value, the stamp in 2
+abbrev pub message33 : Entry → List ℕ
+message33 e = 0x01 ∷ (bytes 2 (e .address) ++ (e .value ++ bytes 2 (e .stamp)))
+
+pub record SecondDemand (tag : List ℕ → Entry → List ℕ) (l : Library) : Type 0 where
+  -- the digest; its constants follow the rule of roots
+  pub digest : (m out : List ℕ) → length m ≤ 8192 → length out ≡ 32 → l .digest m out ≡ filled 0 (sha256 m)
+  pub round-constants : KRule
+  pub starting-words : H0Rule
+  -- the keyed tag, and that of an entry, whose message no other entry has
+  pub mac : (k m out : List ℕ) → length k ≤ 1024 → length m ≤ 4096 → length out ≡ 32 → l .mac k m out ≡ filled 0 (hmac k m)
+  pub tags : (key : List ℕ) (e : Entry) → tag key e ≡ hmac key (message33 e)
+  pub one-entry : (d e : Entry) → Fits 2 d → Fits 2 e → message33 d ≡ message33 e → d ≡ e
+  -- the hash of a multiset, listed in any order: the exclusive-or of all its tags, and how many elements there are
+  pub hashes : (key : List ℕ) (es : List Entry) → hash (tag key) es ≡ record { tag = foldl xor (replicate 32 0) (map (tag key) es); number = length es % 4294967296 }
+  pub same-hash : (key : List ℕ) (p t : List Entry) → ((e : Entry) → times e p ≡ times e t) → hash (tag key) p ≡ hash (tag key) t
+  -- from any state: what each call that is done does with the hashes and all else, and which verdict a check gives
+  pub effects : Effects 2 tag (l .store)
+  -- of whole runs: a check that is done accepts exactly when the hashes of its period agree and no stamp in it was ahead of the clock of its time; at any time
+  -- a state that is not closed tells as much of its period, of which there is one
+  pub check-exactly : CheckExact 2 tag
+  pub state-exactly : StateExact 2 tag
+  pub one-period : OnePeriod
+  -- filter records; length 0 and serial 0 are lawful; the comparison is exact
+  pub filters : OneToOne (l .pack) (l .unpack)
+  pub zeros-lawful : ZerosLawful (l .pack)
+  pub comparison : Compared (l .compare)
