@@ -1,6 +1,6 @@
 """Holds each must-fail edit to the place where it must fail, by the logs that the toolchain leaves.
 
-An edit file has one wrong program or definition, or several that are checked at once. Each has a label, and the file of the proof that it must
+An edit file has one wrong function or definition, or several that are checked at once. Each has a label, and the file of the proof that it must
 break; of a wrong definition also the declaration there:
 
     wrong: LABEL
@@ -9,15 +9,15 @@ break; of a wrong definition also the declaration there:
     old: TEXT
     new: TEXT
 
-The toolchain tells only that the whole was refused. Here everything under `fails:` must have an error of its own in the log: not one that
-merely says that something it rests on was not admitted, nor one that a right program of the same shape would have too, because the proof names
-what is no longer there. (A function whose proof the toolchain makes has no such file; its failure is told under the name that the file would
-have.) Where there are several in a file, each must have an error that is its own doing:
+The toolchain tells only that the whole was refused. Here what stands under `fails:` must have an error of its own: one which says that a fact
+fails (see `FACT`), and not that the proof no longer fits the code, as it may of a right program too, nor that something it rests on failed.
+(A function whose proof the toolchain makes has no such file; its failure is told under the name that the file would have.)
 
-- Of wrong functions each changes the body of the very function whose proof it names, no two the same function, and no other file has an error
-  of its own. A function's proof rests on its own body and on the contracts of what it calls, so the other wrong bodies have no part in it.
-- Of wrong definitions no two name the same declaration. That none of the others breaks it too was seen when the file was written, by trying
-  each alone.
+- A wrong function is one change of the body of the very function whose proof it names, and has the same locals: nothing is renamed or moved. No
+  two of a file are of the same function, and nothing else fails. A function's proof rests on its own body and on the contracts of what it calls,
+  so the other wrong bodies have no part in it.
+- Of several wrong definitions in a file, the declaration that must fail can see its own change and none of the others: they are in no definition
+  that it names or unfolds, nor in the statement of a law that it cites, nor in what these name (`reads` of texts.py).
 
 Prints what does not hold; exit status 1 where something does not, or where there is no edit.
 """
@@ -26,18 +26,24 @@ import pathlib
 import re
 import sys
 
+from texts import declarations, reads
+
 TOP = pathlib.Path(__file__).resolve().parent.parent
 ONLY_RESTS = "was not admitted (it has holes or undetermined implicits, or was rejected), so this cannot be checked"
-ONLY_SHAPE = re.compile(r"has no field|that can be named from here")
+# two types or values differ; a tactic does not reach its goal
+FACT = re.compile(r"the two (types|sides|values) |^expected type |^`(search|omega)`: (no proof of|the goal|the part) |^give a proof of that |^list the missing equation ")
 
 
 @dataclasses.dataclass
 class Wrong:
-    """A wrong program or definition: its label, what must fail, and the texts that it changes, each with its file."""
+    """A wrong function or definition: its label, what must fail, and its changes, each a file, the old text and the new."""
 
     label: str
     fails: str = ""
     changes: list = dataclasses.field(default_factory=list)
+
+    def of_code(self):
+        return any(file.startswith("src/") for file, _, _ in self.changes)
 
 
 def wrongs(edit):
@@ -60,12 +66,14 @@ def wrongs(edit):
         elif key == "file":
             file = value
         elif key == "old":
-            found[-1].changes.append((file, value))
+            found[-1].changes.append([file, value, ""])
+        else:
+            found[-1].changes[-1][2] = value
     return found
 
 
 def labels(crate):
-    """The labels of a crate's wrong programs and definitions."""
+    """The labels of a crate's wrong functions and definitions."""
     return [one.label for edit in sorted((crate / "must-fail").glob("*.edit")) for one in wrongs(edit)]
 
 
@@ -73,11 +81,11 @@ def own_errors(where):
     """The files that have an error of their own in the log of an edit, and with them the declarations that have one, as FILE NAME."""
     found = set()
     for line in (where / ".log").read_text().splitlines():
-        error = re.match(r"(\S+?):\d+:\d+: error: `([^`]*)`", line) or re.match(r"fn \S+: no proof: expected `([^`]*)` in (\S+);", line)
-        if error and ONLY_RESTS not in line and not ONLY_SHAPE.search(line):
-            file, name = (error[1], error[2]) if ": error: " in line else (error[2], error[1])
-            file = file.removeprefix(f"{where}/")
-            found |= {file, f"{file} {name}"}
+        error = re.match(r"(?P<file>\S+?):\d+:\d+: error: `(?P<name>[^`]*)`: (?P<says>.*)", line)
+        made = re.match(r"fn \S+: no proof: expected `(?P<name>[^`]*)` in (?P<file>\S+); `\w+` does not close ", line)
+        if made or error and ONLY_RESTS not in line and FACT.search(error["says"]):
+            file = (made or error)["file"].removeprefix(f"{where}/")
+            found |= {file, f"{file} {(made or error)['name']}"}
     return found
 
 
@@ -91,19 +99,35 @@ def proof_of(crate, file, text):
     return f"{folder}/{names[0]}/Proof.antt" if len(names) == 1 and source.count(text) == 1 else None
 
 
-def apart(crate, found, failing):
-    """What keeps the errors of several wrong functions, or of several wrong definitions, from being told apart."""
+def of_functions(crate, found, failing):
+    """What does not hold of a file's wrong functions."""
     named = [one.fails for one in found]
     said = [f"two of them name {name}" for name in sorted(set(named)) if named.count(name) > 1]
-    if not any(file.startswith("src/") for one in found for file, _ in one.changes):
+    said += [f"{name} fails too, and none of them names it" for name in sorted(failing - set(named)) if " " not in name]
+    for one in found:
+        (file, old, new), *more = one.changes
+        if more or old.count("let ") != new.count("let "):
+            said.append(f"{one.label}: it is more than one change, or has other locals")
+        elif proof_of(crate, file, old) != one.fails:
+            said.append(f"{one.label}: {file} is changed outside of the function that {one.fails} proves")
+    return said
+
+
+def of_definitions(crate, found):
+    """What does not hold of a file's wrong definitions."""
+    said = [f"{one.label}: it names no declaration" for one in found if " " not in one.fails]
+    if said or len(found) == 1:
         return said
-    said += [f"{name} has an error of its own, and none of them names it" for name in sorted(failing - set(named)) if " " not in name]
-    return said + [
-        f"{one.label}: {file} is changed outside of the function that {one.fails} proves"
-        for one in found
-        for file, text in one.changes
-        if not file.startswith("src/") or proof_of(crate, file, text) != one.fails
-    ]
+    declared = declarations([*crate.glob("specs/**/*.antt"), *crate.glob("proofs/**/*.antt")])
+    for one in found:
+        file, name = one.fails.split()
+        text = reads(declared, (crate / file, name))
+        others = [other.label for other in found if other is not one and any(old in text for _, old, _ in other.changes)]
+        if others:
+            said.append(f"{one.label}: {name} can see what {', '.join(others)} changes: give it a file of its own")
+        if file.endswith("/Proof.antt") or not all(old in text for _, old, _ in one.changes):
+            said.append(f"{one.label}: the declarations do not tell that {name} sees its change: give it a file of its own")
+    return said
 
 
 def faults(crate, edit):
@@ -114,10 +138,11 @@ def faults(crate, edit):
         return ["it was not tried"]
     if not found or not all(one.label and one.fails and one.changes for one in found):
         return ["it lacks a label, what must fail, or a change"]
+    if len({one.of_code() for one in found}) > 1:
+        return ["it has both wrong functions and wrong definitions"]
     failing = own_errors(where)
-    said = [f"{one.label}: it names no declaration" for one in found if " " not in one.fails and not one.changes[0][0].startswith("src/")]
-    said += [f"{one.label}: no error of its own in {one.fails}, but in {sorted(failing)}" for one in found if one.fails not in failing]
-    return said + (apart(crate, found, failing) if len(found) > 1 else [])
+    said = [f"{one.label}: no error of its own in {one.fails}, but in {sorted(failing)}" for one in found if one.fails not in failing]
+    return said + (of_functions(crate, found, failing) if found[0].of_code() else of_definitions(crate, found))
 
 
 def main():
@@ -129,9 +154,7 @@ def main():
         wrong += [f"{crate.name}: two are called {label}" for label in sorted(set(here)) if here.count(label) > 1]
         for edit in sorted((crate / "must-fail").glob("*.edit")):
             wrong += [f"{crate.name}/{edit.name}: {said}" for said in faults(crate, edit)]
-    if not any(ONLY_RESTS in log.read_text() for log in TOP.glob("target/must-fail/*/*/.log")):
-        wrong.append("no log says of anything that it rests on what was not admitted: the toolchain must say it in other words")
-    print("\n".join(wrong) if wrong else f"{count} wrong programs and definitions, each refused where it must be")
+    print("\n".join(wrong) if wrong else f"{count} wrong functions and definitions, each refused where it must be")
     return 1 if wrong or not count else 0
 
 
