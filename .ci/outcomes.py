@@ -1,27 +1,67 @@
-"""Holds crates/outcomes and docs/TIGHTNESS.md to what the crates export: every public function of a library has an entry in both.
+"""Holds crates/outcomes and docs/TIGHTNESS.md to what the libraries export: each public function has its entry in both, and nothing else has.
 
-Reads the interfaces of the proved libraries, so it runs after the proofs. Prints what is missing; exit status 1 where something is.
+A public function is what another crate can name: the toolchain writes it into the proved library under its whole path, modules and type
+included. Its contract must tell something; `Outcomes` must have an entry of it in the one form (look, whose result is a part of the lent store,
+has two fields of its own); and the page must have one row that begins with its path, names that entry, and has two wrong answers or more.
+Runs after the proofs. Prints what does not hold; exit status 1 where something does not.
 """
 import pathlib
 import re
 import sys
 
-top = pathlib.Path(__file__).resolve().parent.parent
-entries = (top / "crates/outcomes/specs/Outcomes.antt").read_text()
-page = (top / "docs/TIGHTNESS.md").read_text()
-missing = []
-seen = 0
+from texts import bare
 
-for crate in re.findall(r"(?m)^(\w+):", (top / "crates.txt").read_text()):
-    interface = top / "target/rlib" / f"{crate}.rlib" / "interface/lang/src"
-    for file in sorted(interface.glob("**/*.rt")):
-        for name in re.findall(r"\bfn (\w+)", file.read_text()):
-            seen += 1
-            used = re.search(rf"(?m)^use Rattle\.{crate}\.proofs\.(?:\w+\.)*{name} as (\w+)$", entries)
-            if not used or f": Tight {used[1]}.ended {used[1]}.Reads.Asked {used[1]}.Reads.Learnt\n" not in entries and used[1] != "Look":
-                missing.append(f"crates/outcomes has no entry of {crate}::{name}")
-            if not re.search(rf"`{crate}/src/\w+\.rt` `{name}` \|", page):
-                missing.append(f"docs/TIGHTNESS.md has no row of {crate}::{name}")
+TOP = pathlib.Path(__file__).resolve().parent.parent
+TIGHT = ["Tight {0}.ended {0}.Reads.Asked {0}.Reads.Learnt"]
+LOOK = [
+    "(κs : Lfts 1) (a : Args {0}.signature κs) (r r′ : Res {0}.signature κs) (e e′ : AtExit {0}.ended κs)"
+    " → {0}.Reads.Learnt κs a r e → {0}.Reads.Learnt κs a r′ e′ → (now r ≡ now r′) × (ptr r ≡ ptr r′)",
+    "(κs : Lfts 1) (a : Args {0}.signature κs) → {0}.Reads.Asked κs a",
+]
 
-print("\n".join(missing) if missing else f"{seen} public functions, each with its entry")
-sys.exit(1 if missing or not seen else 0)
+
+def functions():
+    """The public functions of the libraries by their paths, each with whether its contract tells something."""
+    found = {}
+    for crate in re.findall(r"(?m)^(\w+):", (TOP / "crates.txt").read_text()):
+        if not (TOP / "crates" / crate / "src/lib.rt").exists():
+            continue
+        proved = TOP / "target/rlib" / f"{crate}.rlib" / "lang/antt"
+        exported = proved / "facade/proofs"
+        if not exported.is_dir():
+            found[crate] = False
+        for statement in exported.glob("**/Statement.json"):
+            path = statement.parent.relative_to(exported)
+            found["::".join((crate, *path.parts))] = '"ensures":[{' in (proved / "proofs" / path / "Reads.json").read_text()
+    return found
+
+
+def main():
+    text = bare((TOP / "crates/outcomes/specs/Outcomes.antt").read_text())
+    record = text.partition("pub record Outcomes : Type 1 where\n")[2]
+    fields = [(name, " ".join(of.split())) for name, of in re.findall(r"(?m)^  pub (\S+) : (.*(?:\n {3,}.*)*)", record)]
+    names = re.findall(r"(?m)^use Rattle·(\S+) as (\S+)$", text)
+    page = re.sub(r"(?s)<!--.*?-->", "", (TOP / "docs/TIGHTNESS.md").read_text())
+    rows = re.findall(r"(?m)^\| `(\w+(?:::\w+)+)` \| .+ \| `outcomes/specs/Outcomes.antt` `(\S+)` \| (.+) \|$", page)
+    public = functions()
+    wrong = [f"docs/TIGHTNESS.md has a row of {path}, which is no public function" for path, _, _ in rows if path not in public]
+    for path, tells in sorted(public.items()):
+        crate, *inner = path.split("::")
+        short = [short for whole, short in names if whole == ".".join((crate, "proofs", *inner))]
+        forms = [form.format(short[0]) for form in (LOOK if path == "store::look" else TIGHT)] if len(short) == 1 else [""]
+        entries = [[name for name, of in fields if of == form] for form in forms]
+        mine = [row for row in rows if row[0] == path]
+        if not tells:
+            wrong.append(f"{path} has no contract, or its library is not proved")
+        if not all(len(entry) == 1 for entry in entries):
+            wrong.append(f"crates/outcomes has no entry of {path}, or more than one")
+        elif len(mine) != 1 or mine[0][1] != entries[0][0]:
+            wrong.append(f"docs/TIGHTNESS.md has not one row of {path} with its entry {entries[0][0]}")
+        elif len(set(re.findall(r"`\w+!\w+`", mine[0][2]))) < 2:
+            wrong.append(f"docs/TIGHTNESS.md has fewer than two wrong answers of {path}")
+    print("\n".join(wrong) if wrong else f"{len(public)} public functions, each with its entry")
+    return 1 if wrong or not public else 0
+
+
+if __name__ == "__main__":
+    sys.exit(main())
