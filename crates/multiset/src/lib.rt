@@ -30,25 +30,24 @@ pub fn with_tag(h: Hash, t: [u8; State::TAG]) -> Hash
     }
 }
 
-// Are two tags equal.
+// Are two tags equal. The tags are secret, so every byte is looked at and nothing but the answer branches.
 fn same_tag(s: [u8; State::TAG], t: [u8; State::TAG]) -> bool
     ensures { λ r. ⌜ r ≡ same s t ⌝ }
 {
+    let mut apart = 0u8;
     let mut k: usize = 0;
     while k < State::TAG {
-        if s[k] != t[k] {
-            return false;
-        }
+        apart = apart | (s[k] ^ t[k]);
         k += 1;
     }
-    true
+    apart == 0
 }
 
-// Are two hashes equal: their tags, and their numbers of elements.
+// Are two hashes equal: their tags, and their numbers of elements. Joined by `&`: `&&` would branch on what the tags say.
 pub fn same(p: Hash, q: Hash) -> bool
     ensures { λ r. ⌜ r ≡ sameHash p q ⌝ }
 {
     let s = p.tag;
     let t = q.tag;
-    same_tag(s, t) && p.number == q.number
+    same_tag(s, t) & (p.number == q.number)
 }

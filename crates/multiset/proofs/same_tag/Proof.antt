@@ -1,36 +1,32 @@
--- `multiset::same_tag` meets its contract: the bytes passed are equal, until two differ. Assumes nothing.
-use borrow.Author.Count.{below-more}
+-- `multiset::same_tag` meets its contract: after each turn the byte tells of one place more. Assumes nothing.
 use borrow.Author.Needs.{needs}
-use mathlib.Core.Path.{_≡_, sym, ap, _∙_}
-use Prim.Native.Nat.{ℕ, _-_, _≤_, _<_}
+use Prim.Native.Nat.{_-_, _≤_}
 use native.Mathlib.Omega.{arith}
-use lib.ListN.{length, getD}
-use lib.Seq.{ext-getD}
-use Rattle.octets.proofs.Same.{same-refl, same-other}
+use lib.ListN.{length}
+use mathlib.Core.Path.{_≡_, ap, _∙_}
+use Rattle.multiset.proofs.Apart.{Tells, tells-nothing, tells-more, tells-all}
 use Rattle.multiset.proofs.same_tag.Statement.{statement}
 use Rattle.multiset.proofs.same_tag.Tie as tie
 
 abbrev Inv-loop : tie.InvT-loop
-Inv-loop s t k₀ k = (k ≤ 32) × ((i : ℕ) → i < k → getD s i 0 ≡ getD t i 0)
+Inv-loop s t apart₀ k₀ apart k = (k ≤ 32) × Tells s t apart k
 
 abbrev μ-loop : tie.MeasureT-loop
-μ-loop s t k₀ k = 32 - k
+μ-loop s t apart₀ k₀ apart k = 32 - k
+
+loop-holds : tie.Need-loop-holds Inv-loop μ-loop
+loop-holds c = (omega arith, tells-nothing _ _)
+
+loop-again : tie.Need-loop-again Inv-loop μ-loop
+loop-again c = (omega arith, tells-more _ _ _ _ (c .before .loop .inv .1))
 
 returns : tie.Need-returns Inv-loop μ-loop
 returns c =
-    let x = c .before .before .before .args in
-    sym (same-other (x .t1) (x .t2) (λ e. c .if1 .taken (ap (λ l. getD l (c .before .before .loop .k) 0) e)))
-
-loop-again : tie.Need-loop-again Inv-loop μ-loop
-loop-again c = (omega arith, below-more _ _ (c .before .before .loop .inv .1) (c .if1 .left))
-
-returns-2 : tie.Need-returns-2 Inv-loop μ-loop
-returns-2 c =
-    let x = c .before .before .args in
-    let k : length (x .t1) ≡ 32 = search needs in
-    let l : length (x .t2) ≡ 32 = search needs in
-    let e : x .t1 ≡ x .t2 = ext-getD 0 (x .t1) (x .t2) (k ∙ sym l) (λ i h. c .before .loop .inv .1 i (omega arith)) in
-    rw e (sym (same-refl (x .t2)))
+    let l = c .before .loop in
+    let k : l .k ≡ 32 = omega arith in
+    let m : length (c .before .before .args .t1) ≡ 32 = search needs in
+    let n : length (c .before .before .args .t2) ≡ 32 = search needs in
+    tells-all _ _ (l .apart) (l .k) (m ∙ (cc)) (n ∙ (cc)) (l .inv .1)
 
 pub same-tag-spec : {M : Type 1} → statement M
 same-tag-spec =
@@ -38,11 +34,10 @@ same-tag-spec =
     (tie.spec
     Inv-loop
     μ-loop
-    (λ c. (omega arith, λ k h. absurd (omega arith)))
+    loop-holds
     (λ c. search needs)
     (λ c. search needs)
-    returns
     (λ c. search needs)
     (λ c. search needs)
     loop-again
-    returns-2)
+    returns)
