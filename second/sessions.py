@@ -1,10 +1,11 @@
 #!/usr/bin/env python3
-"""Runs seeded sessions through the bench program and through bench.py, and compares what they print.
+"""Runs sessions through the bench program and through bench.py, and compares what they print: some fixed ones at the bounds, and N seeded ones.
 
     second/sessions.py [N [SEED]]        N sessions (300), from the seed (1)
 
-The last line is 'N sessions, 0 differences'. At the first difference the session is printed and written to a file, with the command that runs it again,
-and the exit status is 1. Session number i of a seed is the same on every machine.
+The last line is 'F fixed and N seeded sessions, 0 differences'. At the first difference the session is printed and written to a file, with the command
+that runs it again, and the exit status is 1. Session number i of a seed is the same on every machine. What the sessions would show of errors that look
+right is counted by errors.py.
 """
 import os
 import random
@@ -107,6 +108,32 @@ class Writer:
             self.spoil(a, bytes([self.rng.randrange(256)]), self.rng.choice(EDGE_STAMPS))
             self.spoil(a, value, stamp)
 
+    def plant(self):
+        """Entries about to be written are planted and read, and then the old cell is put back: the hashes agree, and the fault mark alone tells."""
+        a, byte, now = self.used(), self.byte(), self.bench.clock
+        old = self.bench.cell(a)
+        lines, lead = self.rng.choice(
+            [
+                (["store {a} {v}"], 1),
+                (["load {a}"], 1),
+                (["remove {a}", "add {a} {v}"], 1),
+                (["load {a}", "load {a}"], 2),
+                (["store {a} {v}", "store {a} {v}", "load {a}"], 3),
+            ]
+        )
+        self.spoil(a, bytes.fromhex(byte), now + lead)
+        for line in lines:
+            self.say(line.format(a=a, v=byte))
+        self.spoil(a, *old)
+
+    def mend(self):
+        """A lie is read, and then the old cell is put back: the check finds every cell as it should be, and must know of the lie."""
+        a, byte = self.used(), self.byte()
+        old = self.bench.cell(a)
+        self.spoil(a, bytes.fromhex(byte), self.rng.choice([old[1], self.rng.randint(0, self.bench.clock)]))
+        self.say(self.rng.choice(["load %d" % a, "store %d %s" % (a, byte), "store %d %02x" % (a, old[0][0])]))
+        self.spoil(a, *old)
+
 
 def steps(rng, addresses, moves, count):
     """A session of lawful work with some of the moves between, and a check at the end."""
@@ -138,6 +165,37 @@ def lying(rng):
 
 def edges(rng):
     return steps(rng, EDGE_ADDRESSES, ["edge", "replay"], rng.randint(1, 80))
+
+
+def one_lie(rng, lie, least):
+    """Lawful work with at least so many addresses in use, one lie in it, and checks after it."""
+    w = Writer(rng, rng.sample(range(bench.ADDRESSES), rng.randint(least, 5)))
+    for _ in range(rng.randint(0, 20)):
+        w.work()
+    for a in w.addresses:
+        if len(w.bench.used) < least:
+            w.say("add %d %s" % (a, w.byte()))
+    getattr(w, lie)()
+    for _ in range(rng.randint(0, 8)):
+        w.work()
+    for a in sorted(w.bench.used):
+        w.say("load %d" % a)
+    w.say("check")
+    w.say("load %d" % w.used())
+    w.say("check")
+    return w.lines
+
+
+def planted(rng):
+    return one_lie(rng, "plant", 1)
+
+
+def exchanged(rng):
+    return one_lie(rng, "swap", 2)
+
+
+def mended(rng):
+    return one_lie(rng, "mend", 1)
 
 
 def every_command_at(rng):
@@ -281,7 +339,21 @@ def tiny(rng):
     return [rng.choice([b"", b"\n", b"\n\n", b" ", b"check", b"check\n", b"check\n\n", b"x", b"\ncheck", b"add 0 00", b"load 0\nload 0", b"check\r\n", b"\x00"])]
 
 
-KINDS = [lawful, lying, lying, edges, every_command_at, closed, crowded, malformed, all_bad, noise, damaged, sized, tiny, lying]
+KINDS = [
+    lawful, planted, lying, exchanged, edges, every_command_at, mended, closed, crowded,
+    malformed, planted, all_bad, noise, exchanged, damaged, sized, tiny, lying,
+]
+
+# No input prints more than 4,096 newlines: a byte is a line of its own there, and each prints 4. The longest answer to a line is a check's.
+FIXED = [
+    b"\n" * 4096,
+    b"\n" * 4095 + b"x",
+    b"\n" * 4097,
+    b"check\n" * 682 + b"\n" * 4,
+    b"add 0 41\n" + b"load 0\n" * 583 + b"check\n",
+    b"add 0 41\n" + b"load 0\n" * 583 + b"\ncheck",
+    b"add 0 41\n" + b"load 0\n" * 583 + b"\ncheck\n",
+]
 
 
 def make(seed, i):
@@ -301,14 +373,14 @@ def run(data):
     return done.stdout
 
 
-def tell(seed, i, data, wanted, got):
+def tell(name, data, wanted, got):
     """The first difference, as a session that anyone can run again."""
     os.makedirs(os.path.dirname(FOUND), exist_ok=True)
     with open(FOUND, "wb") as f:
         f.write(data)
     path = os.path.relpath(FOUND)
     lines, ours, theirs = bench.lines_of(data), wanted.split(b"\n"), got.split(b"\n")
-    print("session %d of seed %s, %d bytes:" % (i, seed, len(data)))
+    print("%s, %d bytes:" % (name, len(data)))
     for k in range(max(len(lines), len(ours), len(theirs))):
         row = [part[k] if k < len(part) else b"" for part in (lines, ours, theirs)]
         mark = " " if row[1] == row[2] else "*"
@@ -318,22 +390,26 @@ def tell(seed, i, data, wanted, got):
     print("  %s < %s" % (os.path.relpath(os.path.join(HERE, "bench.py")), path))
 
 
+def agree(pool, names, batch):
+    """Do both programs print the same for every session of a batch? The first difference is told."""
+    for name, data, got in zip(names, batch, pool.map(run, batch)):
+        wanted = bench.session(data)
+        if wanted != got:
+            tell(name, data, wanted, got)
+            return False
+    return True
+
+
 def main():
     count = int(sys.argv[1]) if len(sys.argv) > 1 else 300
     seed = sys.argv[2] if len(sys.argv) > 2 else "1"
     with ThreadPoolExecutor(os.cpu_count()) as pool:
-        done = 0
-        while done < count:
-            batch = [make(seed, i) for i in range(done, min(done + 200, count))]
-            for i, (data, got) in enumerate(zip(batch, pool.map(run, batch)), done):
-                wanted = bench.session(data)
-                if wanted != got:
-                    tell(seed, i, data, wanted, got)
-                    print("%d sessions, 1 difference" % (i + 1))
-                    return 1
-            done += len(batch)
-    print("%d sessions, 0 differences" % count)
-    return 0
+        good = agree(pool, ["fixed session %d" % i for i in range(len(FIXED))], FIXED)
+        for done in range(0, count, 200):
+            numbers = range(done, min(done + 200, count))
+            good = good and agree(pool, ["session %d of seed %s" % (i, seed) for i in numbers], [make(seed, i) for i in numbers])
+    print("%d fixed and %d seeded sessions, 0 differences" % (len(FIXED), count) if good else "a difference, told above")
+    return 0 if good else 1
 
 
 if __name__ == "__main__":
