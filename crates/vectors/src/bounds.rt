@@ -64,9 +64,12 @@ pub fn digests() {
     digest(8192, 33);
 }
 
-// HMACs at their bounds.
+// HMACs at their bounds, and under keys of a block's length and beside it.
 pub fn macs() {
     mac(0, 0, 32);
+    mac(63, 100, 32);
+    mac(64, 100, 32);
+    mac(65, 100, 32);
     mac(1023, 4096, 32);
     mac(1024, 4096, 32);
     mac(1025, 4096, 32);
@@ -83,7 +86,7 @@ fn print_tag(words: &[u8], tag: [u8; 32]) {
     io::write_all(1, b"\n");
 }
 
-// The tag of 33 bytes under a key of 32, and the tag of an entry under a key of zeros: address 5, a value of zeros, stamp 3.
+// The tag of 33 bytes under a key of 32; then tags of entries: under a key of zeros, and where no two bytes of the key or of the message are equal.
 pub fn tags() {
     print_tag(
         b"tag under 32 of 33: ",
@@ -92,5 +95,14 @@ pub fn tags() {
     print_tag(
         b"tag of an entry: ",
         entries::tag([0u8; 32], 5, [0u8; 28], 3),
+    );
+    print_tag(
+        b"tag of an entry, all bytes different: ",
+        entries::tag(
+            *b"ABCDEFGHIJKLMNOPQRSTUVWXYZ012345",
+            0x0203,
+            *b"abcdefghijklmnopqrstuvwxyz67",
+            0x0405,
+        ),
     );
 }

@@ -51,10 +51,18 @@ fn expects(case: &[u8], out: [u8; 32], n: usize) -> bool
     values::named(case, b"MD = ", expected) && check::same(&out[0..n], expected)
 }
 
-// After one more case, which begins with the value of its `Len` line: it agrees by all 32 bytes, or where its tag is cut by 16.
-fn more(mut s: Seen, case: &[u8], keyed: bool) -> Seen {
+// No case yet.
+pub fn none() -> Seen {
+    Seen {
+        cases: 0,
+        agree: 0,
+        cut: 0,
+    }
+}
+
+// After one more case that expects these 32 bytes: it agrees by all of them, or where a tag may be cut by 16.
+pub fn more(mut s: Seen, case: &[u8], out: [u8; 32], keyed: bool) -> Seen {
     s.cases = wrapping_add_u64(s.cases, 1);
-    let out = given(case, keyed);
     if expects(case, out, 32) {
         s.agree = wrapping_add_u64(s.agree, 1);
     } else if keyed && expects(case, out, 16) {
@@ -64,18 +72,15 @@ fn more(mut s: Seen, case: &[u8], keyed: bool) -> Seen {
     s
 }
 
-// What every case of a file says.
+// What every case of a file says. A case begins with the value of its `Len` line.
 fn all(file: &[u8], keyed: bool) -> Seen {
-    let mut s = Seen {
-        cases: 0,
-        agree: 0,
-        cut: 0,
-    };
+    let mut s = none();
     let mut at = 0;
     while at < file.len() {
         let case = values::after(&file[at..], b"Len = ");
         if case.len() > 0 {
-            s = more(s, case, keyed);
+            let out = given(case, keyed);
+            s = more(s, case, out, keyed);
         }
         at = file.len() - case.len() + 1;
     }
@@ -89,7 +94,7 @@ pub fn part(words: &[u8], n: u64) {
 }
 
 // Prints how many cases agree.
-fn report(name: &[u8], s: Seen) {
+pub fn report(name: &[u8], s: Seen) {
     part(name, s.agree);
     part(b" of ", s.cases);
     io::write_all(1, b" agree");
@@ -101,20 +106,28 @@ fn report(name: &[u8], s: Seen) {
 }
 
 // Room for a file.
-fn room() -> [u8; 524288]
+pub fn room() -> [u8; 524288]
     ensures { λ r. ⌜ 524288 ≡ length r ⌝ }
 {
     [0; 524288]
 }
 
+// Reads a file into its room, and gives its length.
+pub fn read(path: &[u8], file: &mut [u8]) -> usize
+    ensures { λ r. ⌜ r ≤ length (now (file .exit)) ⌝ }
+{
+    let fd = os::open_read(path);
+    let n = io::read_full(fd, file);
+    libc::close(fd);
+    if n == file.len() {
+        io::write_all(1, b"too long: ");
+    }
+    n
+}
+
 // Runs the cases of a file, and prints how many agree.
 pub fn run(path: &[u8], name: &[u8], keyed: bool) {
     let mut file = room();
-    let fd = os::open_read(path);
-    let n = io::read_full(fd, &mut file);
-    libc::close(fd);
-    if n == 524288 {
-        io::write_all(1, b"too long: ");
-    }
+    let n = read(path, &mut file);
     report(name, all(&file[0..n], keyed));
 }
