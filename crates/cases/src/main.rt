@@ -8,26 +8,47 @@ use filter::FilterRecord;
 const NONE: usize = 224;
 
 fn main() {
-    lawful(Family::Ipv4, 33);
-    lawful(Family::Ipv6, 129);
+    lengths(Family::Ipv4, 33);
+    lengths(Family::Ipv6, 129);
     past(Family::Ipv4, 33);
     past(Family::Ipv6, 128);
-    each_bit(Family::Ipv4, 24, 18, 32);
-    each_bit(Family::Ipv6, 64, 0, 224);
+    above(Family::Ipv4, 33);
+    above(Family::Ipv6, 129);
+    below(Family::Ipv4, 32);
+    below(Family::Ipv6, 128);
+    each_bit(bytes(mixed(Family::Ipv4, 24, 32)));
+    each_bit(bytes(mixed(Family::Ipv6, 64, 128)));
+    spare_pairs(Family::Ipv4);
+    spare_pairs(Family::Ipv6);
+    members(Family::Ipv4);
+    members(Family::Ipv6);
     edges(Family::Ipv4, 32);
     edges(Family::Ipv6, 128);
     orders(Family::Ipv4, 32);
     orders(Family::Ipv6, 128);
-    sizes(exact(Family::Ipv6, 48));
+    sizes(doubled(bytes(exact(Family::Ipv6, 48))));
 }
 
-// Two lawful filter records of each prefix length below the end.
-fn lawful(f: Family, end: u8) {
+// For each prefix length below the end: lawful filter records with it as the longest, with the family's top and with one between, and member 0.
+fn lengths(f: Family, end: u8) {
     let mut l: u8 = 0;
     while l < end {
+        let top = end - 1;
         turned(f, l, NONE, NONE);
-        show(&bytes(mixed(f, l, end - 1)));
+        show(&bytes(mixed(f, l, top)));
+        show(&memberless(bytes(mixed(f, l, top))));
+        between(f, l, top);
         l += 1;
+    }
+}
+
+// A lawful filter record with a longest between its prefix length and the top, where there is one.
+fn between(f: Family, l: u8, top: u8) {
+    if l < top {
+        let half = (top - l) / 2;
+        if half > 0 {
+            show(&bytes(mixed(f, l, l + half)));
+        }
     }
 }
 
@@ -40,23 +61,69 @@ fn past(f: Family, end: u8) {
     }
 }
 
-// One bit turned, for each bit from a start to an end.
-fn each_bit(f: Family, l: u8, start: usize, end: usize) {
-    let mut k = start;
-    while k < end {
-        turned(f, l, k, NONE);
+// Each longest from a start on, to the largest of eight bits.
+fn above(f: Family, start: usize) {
+    let mut n = start;
+    while n < 256 {
+        show(&with_longest(bytes(exact(f, 24)), n as u8));
+        n += 1;
+    }
+}
+
+// A longest one below the prefix length, for each below the end.
+fn below(f: Family, end: u8) {
+    let mut n: u8 = 0;
+    while n < end {
+        show(&with_longest(bytes(exact(f, n + 1)), n));
+        n += 1;
+    }
+}
+
+// Each bit turned, one at a time.
+fn each_bit(b: [u8; 28]) {
+    let mut k = 0;
+    while k < NONE {
+        show(&flip(b, k));
         k += 1;
     }
 }
 
-// Lengths one above a family's top, a length above its longest, the other family, member 0, and the largest filter record.
+// Each two spare bits set.
+fn spare_pairs(f: Family) {
+    let mut i = 18;
+    while i < 32 {
+        spare_from(f, i);
+        i += 1;
+    }
+}
+
+// A spare bit set, with each of those after it.
+fn spare_from(f: Family, i: usize) {
+    let mut j = 31;
+    while i < j {
+        turned(f, 24, i, j);
+        j -= 1;
+    }
+}
+
+// A member of each one bit.
+fn members(f: Family) {
+    let mut k: u32 = 0;
+    while k < 32 {
+        let mut r = mixed(f, 20, 22);
+        r.member = 1 << k;
+        show(&bytes(r));
+        k += 1;
+    }
+}
+
+// Lengths one above a family's top, a length above its longest, member 0, and the largest filter record.
 fn edges(f: Family, top: u8) {
     turned(f, top, 9, NONE);
     turned(f, top, 17, NONE);
     turned(f, top, 9, 17);
     turned(f, 0, 9, NONE);
     turned(f, 24, 9, NONE);
-    turned(f, top, 0, NONE);
     turned(f, 0, 63, NONE);
     turned(f, top, 63, NONE);
     show(&bytes(full(f, top)));
@@ -77,19 +144,45 @@ fn turned(f: Family, l: u8, i: usize, j: usize) {
     show(&flip(flip(bytes(exact(f, l)), i), j));
 }
 
-// A lawful filter record with one byte too few, with one too many, and its first byte alone.
-fn sizes(r: FilterRecord) {
-    let b = longer(r);
-    show(&b[0..27]);
-    show(&b);
-    show(&b[0..1]);
+// The first bytes of these, as many as no filter record has.
+fn sizes(b: [u8; 56]) {
+    let mut n = 0;
+    while n < 57 {
+        if n != 28 {
+            show(&b[0..n]);
+        }
+        n += 1;
+    }
 }
 
-// The bytes that pack writes, and one more.
-fn longer(r: FilterRecord) -> [u8; 29] {
-    let mut b = [0u8; 29];
-    filter::pack(r, &mut b[0..28]);
-    b
+// The bytes of a filter record, twice.
+fn doubled(b: [u8; 28]) -> [u8; 56] {
+    let mut d = [0u8; 56];
+    let mut i = 0;
+    while i < 28 {
+        d[i] = b[i];
+        d[28 + i] = b[i];
+        i += 1;
+    }
+    d
+}
+
+// The bytes with another longest length, lawful or not.
+fn with_longest(b: [u8; 28], n: u8) -> [u8; 28] {
+    let mut c = b;
+    c[1] = (c[1] & 192) | (n >> 2);
+    c[2] = (c[2] & 63) | (n << 6);
+    c
+}
+
+// The bytes with member 0.
+fn memberless(b: [u8; 28]) -> [u8; 28] {
+    let mut c = b;
+    c[4] = 0;
+    c[5] = 0;
+    c[6] = 0;
+    c[7] = 0;
+    c
 }
 
 // A filter record with its prefix length for its longest, every prefix bit set, member 1 and serial 0.
@@ -118,15 +211,15 @@ fn full(f: Family, top: u8) -> FilterRecord {
     }
 }
 
-// A filter record with the family's top for its longest, and its other fields mixed from its prefix length.
-fn mixed(f: Family, l: u8, top: u8) -> FilterRecord {
-    let a = next(l as u32);
+// A filter record with its other fields mixed from its lengths.
+fn mixed(f: Family, l: u8, longest: u8) -> FilterRecord {
+    let a = next((l as u32) * 256 + longest as u32);
     let b = next(a);
     FilterRecord {
         family: f,
         action: Action::Permit,
         length: l,
-        longest: top,
+        longest,
         member: above_zero(a),
         serial: b,
         prefix: kept(filled(b), l),

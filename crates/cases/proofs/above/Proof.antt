@@ -1,25 +1,25 @@
--- `cases::lawful` ends: the length counts up to the end. Assumes nothing.
-use Prim.Native.Nat.{_-_}
+-- `cases::above` ends: what is left of eight bits falls. Assumes nothing.
 use borrow.Author.Needs.{needs}
-use Rattle.cases.proofs.lawful.Statement.{statement}
-use Rattle.cases.proofs.lawful.Tie as tie
+use Prim.Native.Nat.{_-_}
+use Rattle.cases.proofs.above.Statement.{statement}
+use Rattle.cases.proofs.above.Tie as tie
 
 abbrev Inv-loop : tie.InvT-loop
-Inv-loop f end l₀ l = Unit {0}
+Inv-loop f start n₀ n = Unit {0}
 
 abbrev μ-loop : tie.MeasureT-loop
-μ-loop f end l₀ l = end - l
+μ-loop f start n₀ n = 256 - n
 
-pub lawful-spec : {M : Type 1} → statement M
-lawful-spec =
+pub above-spec : {M : Type 1} → statement M
+above-spec =
     tie.close
     (tie.spec
     Inv-loop
     μ-loop
     (λ c. search needs)
     (λ c κs. search needs)
-    (λ c. search needs)
     (λ c κs. search needs)
+    (λ c. search needs)
     (λ c κs. search needs)
     (λ c. search needs)
     (λ c κs. search needs)

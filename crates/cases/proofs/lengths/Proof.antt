@@ -1,0 +1,35 @@
+-- `cases::lengths` ends: what is left to the end falls. Assumes nothing.
+use borrow.Author.Needs.{needs}
+use Prim.Native.Nat.{_-_}
+use Rattle.cases.proofs.lengths.Statement.{statement}
+use Rattle.cases.proofs.lengths.Tie as tie
+
+abbrev Inv-loop : tie.InvT-loop
+Inv-loop f end l₀ l = Unit {0}
+
+abbrev μ-loop : tie.MeasureT-loop
+μ-loop f end l₀ l = end - l
+
+pub lengths-spec : {M : Type 1} → statement M
+lengths-spec =
+    tie.close
+    (tie.spec
+    Inv-loop
+    μ-loop
+    (λ c. search needs)
+    (λ c. search needs)
+    (λ c κs. search needs)
+    (λ c κs. search needs)
+    (λ c κs. search needs)
+    (λ c. search needs)
+    (λ c κs. search needs)
+    (λ c κs. search needs)
+    (λ c κs. search needs)
+    (λ c κs. search needs)
+    (λ c. search needs)
+    (λ c κs. search needs)
+    (λ c κs. search needs)
+    (λ c. search needs)
+    (λ c. search needs)
+    (λ c. search needs)
+    (λ c. search needs))
