@@ -1,5 +1,6 @@
 #!/usr/bin/env python3
-"""Runs sessions through the bench program and through bench.py, and compares what they print: some fixed ones at the bounds, and N seeded ones.
+"""Runs sessions through the bench program and through bench.py, and compares what they print: some fixed ones at the bounds, and N seeded ones. Before
+these, runs whose input or output fails must fail.
 
     second/sessions.py [N [SEED]]        N sessions (300), from the seed (1)
 
@@ -400,15 +401,32 @@ def agree(pool, names, batch):
     return True
 
 
+def failing():
+    """Runs whose input cannot be read, at once or after a first part, or whose output cannot be written: do they print nothing, say why, and end with 1?"""
+    terminal, line = os.openpty()
+    os.write(line, b"check\n")
+    os.close(line)
+    folder, full = os.open(HERE, os.O_RDONLY), os.open("/dev/full", os.O_WRONLY)
+    runs = [
+        subprocess.run([PROGRAM], stdin=folder, stdout=subprocess.PIPE, stderr=subprocess.PIPE),
+        subprocess.run([PROGRAM], stdin=terminal, stdout=subprocess.PIPE, stderr=subprocess.PIPE),
+        subprocess.run([PROGRAM], input=b"check\n", stdout=full, stderr=subprocess.PIPE),
+    ]
+    wrong = [r for r in runs if r.returncode != 1 or not r.stderr.startswith(b"bench: a ") or r.stdout]
+    for r in wrong:
+        print("a run that must fail: status %d, said %r, printed %r" % (r.returncode, r.stderr, r.stdout))
+    return not wrong
+
+
 def main():
     count = int(sys.argv[1]) if len(sys.argv) > 1 else 300
     seed = sys.argv[2] if len(sys.argv) > 2 else "1"
     with ThreadPoolExecutor(os.cpu_count()) as pool:
-        good = agree(pool, ["fixed session %d" % i for i in range(len(FIXED))], FIXED)
+        good = failing() and agree(pool, ["fixed session %d" % i for i in range(len(FIXED))], FIXED)
         for done in range(0, count, 200):
             numbers = range(done, min(done + 200, count))
             good = good and agree(pool, ["session %d of seed %s" % (i, seed) for i in numbers], [make(seed, i) for i in numbers])
-    print("%d fixed and %d seeded sessions, 0 differences" % (len(FIXED), count) if good else "a difference, told above")
+    print("%d fixed and %d seeded sessions, 0 differences" % (len(FIXED), count) if good else "a difference or a run that did not fail, told above")
     return 0 if good else 1
 
 
