@@ -43,11 +43,11 @@ fn same_tag(s: [u8; State::TAG], t: [u8; State::TAG]) -> bool
     apart == 0
 }
 
-// Are two hashes equal: their tags, and their numbers of elements. Joined by `&`: `&&` would branch on what the tags say.
+// Are two hashes equal: their numbers of elements, which are no secret, and then their tags. In this order a branch on the tags is the answer itself.
 pub fn same(p: Hash, q: Hash) -> bool
     ensures { λ r. ⌜ r ≡ sameHash p q ⌝ }
 {
     let s = p.tag;
     let t = q.tag;
-    same_tag(s, t) & (p.number == q.number)
+    p.number == q.number && same_tag(s, t)
 }

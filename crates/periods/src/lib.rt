@@ -5,13 +5,13 @@ ghost use mathlib.Core.Path.{_≡_};
 ghost use Rattle.state.specs.Step.{shut};
 ghost use Rattle.state.specs.Check.{opened, agrees};
 
-// Are the hashes equal, and no fault marked. Joined by `&`, so that where a fault is marked nothing shows what the secret hashes say.
+// Is no fault marked, and are the hashes equal. The mark is no secret and stands first: where it is set the hashes are not looked at.
 pub fn agrees(s: State) -> bool
     ensures { λ r. ⌜ r ≡ agrees s ⌝ }
 {
     let p = s.put;
     let t = s.take;
-    multiset::same(p, t) & !s.fault
+    !s.fault && multiset::same(p, t)
 }
 
 // A new period: empty hashes, and the clock at 1.
