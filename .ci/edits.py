@@ -11,11 +11,12 @@ break; of a wrong definition also the declaration there:
 
 The toolchain tells only that the whole was refused. Here what stands under `fails:` must have an error of its own: one which says that a fact
 fails (see `FACT`), and not that the proof no longer fits the code, as it may of a right program too, nor that something it rests on failed.
-(A function whose proof the toolchain makes has no such file; its failure is told under the name that the file would have.)
+(A function whose proof the toolchain makes has no such file; its failure is told under the name that the file would have. A right program
+that is written another way can be refused by a fact too, so what an edit's words say is for the reader to see.)
 
 - A wrong function is one change of the body of the very function whose proof it names, and has the same locals: nothing is renamed or moved. No
   two of a file are of the same function, and nothing else fails. A function's proof rests on its own body and on the contracts of what it calls,
-  so the other wrong bodies have no part in it.
+  so the other wrong bodies have no part in it. (A wrong constant has a file of its own.)
 - Of several wrong definitions in a file, the declaration that must fail can see its own change and none of the others: they are in no definition
   that it names or unfolds, nor in the statement of a law that it cites, nor in what these name (`reads` of texts.py).
 
@@ -29,9 +30,13 @@ import sys
 from texts import declarations, reads
 
 TOP = pathlib.Path(__file__).resolve().parent.parent
-ONLY_RESTS = "was not admitted (it has holes or undetermined implicits, or was rejected), so this cannot be checked"
-# two types or values differ; a tactic does not reach its goal
-FACT = re.compile(r"the two (types|sides|values) |^expected type |^`(search|omega)`: (no proof of|the goal|the part) |^give a proof of that |^list the missing equation ")
+# two types, sides or values differ; `search`, `omega`, `rw`, `simp` or `cc` does not reach its goal
+FACT = re.compile(
+    r"the two (types|sides|values) (?!are identical)|expected type |"
+    r"`(search|omega)`: (no proof of|the goal|the part) |give a proof of that |list the missing equation "
+)
+# what a proof takes for a loop's invariant or measure: an error there says that the loop has other variables
+TAKEN = ("Inv-", "μ-")
 
 
 @dataclasses.dataclass
@@ -81,22 +86,26 @@ def own_errors(where):
     """The files that have an error of their own in the log of an edit, and with them the declarations that have one, as FILE NAME."""
     found = set()
     for line in (where / ".log").read_text().splitlines():
-        error = re.match(r"(?P<file>\S+?):\d+:\d+: error: `(?P<name>[^`]*)`: (?P<says>.*)", line)
-        made = re.match(r"fn \S+: no proof: expected `(?P<name>[^`]*)` in (?P<file>\S+); `\w+` does not close ", line)
-        if made or error and ONLY_RESTS not in line and FACT.search(error["says"]):
-            file = (made or error)["file"].removeprefix(f"{where}/")
-            found |= {file, f"{file} {(made or error)['name']}"}
+        error = re.match(r"(\S+?):\d+:\d+: error: `([^`]*)`: (.*)", line)
+        made = re.match(r"fn \S+: no proof: expected `([^`]*)` in (\S+); `\w+` does not close ", line)
+        if made or error and FACT.search(error[3]) and not error[2].startswith(TAKEN):
+            file, name = (made[2], made[1]) if made else (error[1], error[2])
+            file = file.removeprefix(f"{where}/")
+            found |= {file, f"{file} {name}"}
     return found
 
 
 def proof_of(crate, file, text):
     """The proof of the function of a source file whose body alone has a text."""
-    module = pathlib.Path(file).stem
-    folder = "proofs" if module in ("lib", "main") else f"proofs/{module}"
     source = (crate / file).read_text()
-    bodies = re.findall(r"(?ms)^( *)[^\n]*\bfn (\w+)\b.*?^\1\{\n(.*?)^\1\}$", source)
-    names = [name for _, name, body in bodies if text in body]
-    return f"{folder}/{names[0]}/Proof.antt" if len(names) == 1 and source.count(text) == 1 else None
+    module = pathlib.Path(file).stem
+    folders = ["proofs"] if module in ("lib", "main") else ["proofs", module]
+    found = []
+    for one in re.finditer(r"(?ms)^( *)[^\n]*\bfn (\w+)\b.*?^\1\{\n(.*?)^\1\}$", source):
+        if text in one[3]:
+            types = re.findall(r"(?m)^impl (\w+)", source[: one.start()])[-1:] if one[1] else []
+            found.append("/".join([*folders, *types, one[2], "Proof.antt"]))
+    return found[0] if len(found) == 1 and source.count(text) == 1 else None
 
 
 def of_functions(crate, found, failing):
@@ -108,7 +117,7 @@ def of_functions(crate, found, failing):
         (file, old, new), *more = one.changes
         if more or old.count("let ") != new.count("let "):
             said.append(f"{one.label}: it is more than one change, or has other locals")
-        elif proof_of(crate, file, old) != one.fails:
+        elif proof_of(crate, file, old) != one.fails and not (len(found) == 1 and "const " in old):
             said.append(f"{one.label}: {file} is changed outside of the function that {one.fails} proves")
     return said
 
@@ -138,6 +147,8 @@ def faults(crate, edit):
         return ["it was not tried"]
     if not found or not all(one.label and one.fails and one.changes for one in found):
         return ["it lacks a label, what must fail, or a change"]
+    if not all(file.startswith(("src/", "specs/")) for one in found for file, _, _ in one.changes):
+        return ["it changes a proof"]
     if len({one.of_code() for one in found}) > 1:
         return ["it has both wrong functions and wrong definitions"]
     failing = own_errors(where)
