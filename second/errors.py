@@ -59,7 +59,7 @@ class NeverFault(bench.Bench):
         return value
 
 
-class FaultAtRemove(bench.Bench):
+class RemoveBlind(bench.Bench):
     """a remove does not compare the stamp"""
 
     def remove(self, a):
@@ -150,7 +150,7 @@ class ClosedChecked(bench.Bench):
         return super().check()
 
 
-ERRORS = [RaisedFirst, NoAddress, StoreTakesNothing, StoreTakesOwn, LoadEnds, Reopened, ClosedTaken, ClosedChecked, NeverFault, FaultAtRemove, LoadTakesNothing]
+ERRORS = [RaisedFirst, NoAddress, StoreTakesNothing, StoreTakesOwn, LoadEnds, Reopened, ClosedTaken, ClosedChecked, NeverFault, RemoveBlind, LoadTakesNothing]
 
 
 def printed(error, data):
