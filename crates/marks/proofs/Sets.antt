@@ -1,7 +1,7 @@
 -- The marks as a set of addresses: the count is how many there are, and the lowest free is the smallest that is not among them. Assumes nothing.
 use mathlib.Core.Path.{_≡_, refl, sym, ap, _∙_, subst}
 use mathlib.Core.Bool.{Bool, true, false, cond, not}
-use mathlib.Core.List.{List, [], _∷_, _++_, append-nil, List·Memᴰ, List·Memᴰ·head, List·Memᴰ·tail, List·Memᴰ·not-nil, List·Memᴰ·append-cases, List·Memᴰ·eq-of-singleton, Memᴰ·append-left, Memᴰ·append-right}
+use mathlib.Core.List.{List, [], _∷_, _++_}
 use mathlib.Core.Logic.{⊎-elim, _↔_}
 use Prim.Native.Nat.{ℕ, zero, suc, _+_, _-_, _≤_, _<_}
 use native.Mathlib.Nat.{eq-or-lt-of-le, le-of-suc-le-suc, not-suc-le-zero}
@@ -11,10 +11,8 @@ use borrow.Author.Tests.{eq-eqb, ne-eqb, not-true, not-false}
 use Rattle.state.specs.Sizes.{addresses}
 use Rattle.state.specs.Marks.{used, usedBelow, countBelow, countOf, firstFrom, lowestFree}
 use Rattle.state.specs.Moves.{lowestOf, freeNumber}
-use Rattle.state.proofs.InUse.{in-use-only, in-use-all}
 use Rattle.state.specs.declared.Free.the-variants.{At, Full}
 use Rattle.marks.specs.Next.{nextUsed}
-use Rattle.marks.specs.Sets.{Distinct, Counted, Lowest, AllUsed}
 
 -- ---- the count
 
@@ -26,29 +24,6 @@ count-length ws (suc n) = step (used ws n) (count-length ws n)
     step : (t : Bool) → countBelow n ws ≡ length (usedBelow ws n) → cond t (countBelow n ws + 1) (countBelow n ws) ≡ length (usedBelow ws n ++ cond t (n ∷ []) [])
     step true e = rw (length-append, e)
     step false e = rw (length-append, e) (omega arith)
-
-distinct-last : (xs : List ℕ) (x : ℕ) → Distinct xs → (List·Memᴰ x xs → ⊥) → Distinct (xs ++ (x ∷ []))
-distinct-last [] x d n = (List·Memᴰ·not-nil, tt)
-distinct-last (y ∷ xs) x d n =
-    (λ m. ⊎-elim (d .0) (λ l. n (List·Memᴰ·head (sym (List·Memᴰ·eq-of-singleton l)))) (List·Memᴰ·append-cases xs m), distinct-last xs x (d .1) (λ m. n (List·Memᴰ·tail m)))
-
-in-use-once : (ws : List ℕ) (n : ℕ) → Distinct (usedBelow ws n)
-unfolding usedBelow
-in-use-once ws zero = tt
-in-use-once ws (suc n) = step (used ws n) (in-use-once ws n)
-  where
-    step : (t : Bool) → Distinct (usedBelow ws n) → Distinct (usedBelow ws n ++ cond t (n ∷ []) [])
-    step true d = distinct-last (usedBelow ws n) n d (λ m. absurd (omega (arith, in-use-only ws n n m .0)))
-    step false d = rw append-nil d
-
-pub count-is : (ws : List ℕ) → Counted ws (countOf ws)
-unfolding countOf
-count-is ws = record {
-  inUse = usedBelow ws addresses;
-  size = count-length ws addresses;
-  once = in-use-once ws addresses;
-  each = λ a. (in-use-only ws addresses a, λ h. in-use-all ws addresses a (h .0) (h .1));
-}
 
 -- ---- the first address that something holds of
 
@@ -99,6 +74,16 @@ lowest-is ws = first-is (free ws) addresses 0
 pub lowest-only : (ws : List ℕ) (r : ℕ) → First (free ws) addresses 0 r → lowestFree ws ≡ r
 unfolding lowestFree
 lowest-only ws r f = first-only (free ws) addresses 0 r f
+
+-- a is the smallest address that is not in use
+pub record Lowest (ws : List ℕ) (a : ℕ) : Type 0 where
+  pub below : a < addresses
+  pub free : used ws a ≡ false
+  pub before : (b : ℕ) → b < a → used ws b ≡ true
+
+-- every address is in use
+abbrev pub AllUsed : List ℕ → Type 0
+AllUsed ws = (a : ℕ) → a < addresses → used ws a ≡ true
 
 -- an address where the search ends below the last, and else none
 at-below : (ws : List ℕ) → lowestFree ws < addresses → lowestOf ws ≡ At (lowestFree ws)

@@ -1,3 +1,2 @@
-pub mod Exact
-pub mod Passed
 pub mod Cases
+pub mod Passed

@@ -5,7 +5,7 @@ use mathlib.Core.List.{List, [], _∷_}
 use Prim.Native.Nat.{ℕ, zero, suc}
 use native.Mathlib.Omega.{arith}
 use lib.Dec.{T, ltb}
-use Rattle.refusal.specs.Refusal.{Row, first, done, NoneHolds}
+use Rattle.refusal.specs.Refusal.{Row, first, done}
 
 pub done-zero : {A : Type 0} (n : ℕ) (x y : A) → n ≡ 0 → done n x y ≡ x
 done-zero n x y e = rw e
@@ -13,6 +13,11 @@ done-zero n x y e = rw e
 pub done-other : {A : Type 0} (n : ℕ) (x y : A) → (n ≡ 0 → ⊥) → done n x y ≡ y
 done-other zero x y h = absurd (h refl)
 done-other (suc n) x y h = refl
+
+-- no row of these holds
+unfoldable pub NoneHolds : List Row → Type 0
+NoneHolds [] = Unit {0}
+NoneHolds (r ∷ rs) = (r .holds ≡ false) × NoneHolds rs
 
 -- no row has the number 0: a test that computes on rows that are written out
 abbrev pub numbered : List Row → Bool

@@ -1,9 +1,7 @@
 -- 01, "Numbers given back": the rows of a call, in its order, and the number that they give.
 -- Assumes nothing.
-use mathlib.Core.Path.{_≡_}
-use mathlib.Core.Bool.{Bool, true, false, cond}
-use mathlib.Core.List.{List, [], _∷_, _++_}
-use mathlib.Core.Logic.{_⊎_, _↔_}
+use mathlib.Core.Bool.{Bool, cond}
+use mathlib.Core.List.{List, [], _∷_}
 use Prim.Native.Nat.{ℕ, zero, suc}
 
 -- a row of the table: whether its condition holds, and its number
@@ -19,25 +17,6 @@ when n b = record { holds = b; number = n }
 abbrev pub first : List Row → ℕ
 first [] = 0
 first (r ∷ rs) = cond (r .holds) (r .number) (first rs)
-
--- no row of these holds
-unfoldable pub NoneHolds : List Row → Type 0
-NoneHolds [] = Unit {0}
-NoneHolds (r ∷ rs) = (r .holds ≡ false) × NoneHolds rs
-
--- a row with this number holds, and no row before it does
-pub record Refused (n : ℕ) (rows : List Row) : Type 0 where
-  pub before : List Row
-  pub row : Row
-  pub after : List Row
-  pub place : rows ≡ before ++ (row ∷ after)
-  pub earlier : NoneHolds before
-  pub holds : row .holds ≡ true
-  pub given : row .number ≡ n
-
--- n is the number given: that of the first row that holds, or 0 where none does
-abbrev pub Given : ℕ → List Row → Type 0
-Given n rows = ((n ≡ 0) × NoneHolds rows) ⊎ Refused n rows
 
 -- what a call gives: x where it is done, y where it is refused
 abbrev pub done : {A : Type 0} → ℕ → A → A → A
@@ -55,8 +34,3 @@ filled n o = record { number = n; out = o }
 -- new bytes where no row holds; a refusal leaves the old ones
 abbrev pub fills : List Row → List ℕ → List ℕ → Filled
 fills rows new old = filled (first rows) (done (first rows) new old)
-
--- such a call with these rows: each number exactly where its row is the first that holds; refused, the buffer is as it was
-pub record FillsExactly (rows : List Row) (given : Filled) (old : List ℕ) : Type 0 where
-  pub number : (n : ℕ) → (given .number ≡ n) ↔ Given n rows
-  pub unchanged : (given .number ≡ 0 → ⊥) → given .out ≡ old

@@ -7,8 +7,8 @@ use mathlib.Core.Logic.{_≢_}
 use Prim.Native.Nat.{ℕ, _*_, _<_}
 use lib.Dec.{T}
 use lib.ListN.{length}
-use Rattle.refusal.specs.Refusal.{Row, when, first, NoneHolds}
-use Rattle.refusal.proofs.Passed.{done-zero, done-other, numbered, none-holds}
+use Rattle.refusal.specs.Refusal.{Row, when, first}
+use Rattle.refusal.proofs.Passed.{NoneHolds, done-zero, done-other, numbered, none-holds}
 use Rattle.state.specs.Sizes.{addresses, valueSize, cellSize, storeSize, ceiling}
 use Rattle.state.specs.Marks.{used}
 use Rattle.state.specs.Cells.{valueAt}
