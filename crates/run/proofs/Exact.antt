@@ -1,108 +1,95 @@
--- Demand 2 of whole runs. A state that is not closed is told by its events; of those the hashes are the period's, and by the last event a fault is marked
--- exactly when a take was ahead. A check looks at just that, after its takes. Assumes nothing.
+-- Demand 2 of whole runs. A state that is not closed follows the bag of all that was done; that has the period's puts and takes, and its fault mark is clear
+-- exactly where no take was ahead. A check looks at just that, after its takes. Assumes nothing.
 use mathlib.Core.Path.{_≡_, refl, sym, ap, _∙_, subst}
-use mathlib.Core.Bool.{Bool, true, false, false≢true}
-use mathlib.Core.List.{List, [], _∷_, _++_, append-nil, append-assoc, foldl-append}
-use mathlib.Core.Logic.{_⊎_, inl, inr, ⊎-elim, _↔_}
+use mathlib.Core.Bool.{false}
+use mathlib.Core.List.{List, [], _∷_, _++_, foldl, foldl-append}
 use Prim.Native.Nat.{ℕ}
 use native.Mathlib.Omega.{arith}
-use lib.Dec.{ltb}
-use borrow.Author.Tests.{ltb-false, le-ltb}
 use Rattle.refusal.specs.Refusal.{first}
-use Rattle.state.specs.Sizes.{addresses}
 use Rattle.state.specs.Cells.{Entry}
 use Rattle.state.specs.Multiset.{hash}
-use Rattle.state.specs.Start.{fresh}
-use Rattle.state.specs.Step.{Event, took, put, accepted, withMarks, takeEntry, putEntry}
-use Rattle.state.specs.Check.{checkRows, takes, takeAll}
+use Rattle.state.specs.Step.{Event, took, put, accepted, Step}
+use Rattle.state.specs.Check.{checkRows, agrees, takes, takeAll, acceptance, rejection, checkOf}
 use Rattle.state.specs.declared.State.{State}
-use Rattle.state.proofs.Ready.{check-ready}
+use Rattle.state.proofs.Ready.{call-done, check-ready}
 use Rattle.state.proofs.Guards.{accepts-tells, equal-accepts}
-use Rattle.run.specs.Calls.{check, step}
+use Rattle.bag.specs.Bag.{Bag, empty, noted, follow}
+use Rattle.bag.specs.Claims.{Follows}
+use Rattle.bag.proofs.Cases.{by-cond}
+use Rattle.bag.proofs.Faults.{on-time, calm-after}
+use Rattle.run.specs.Calls.{check, step, Lent}
 use Rattle.run.specs.Demand3.{Since, stateAfter, eventsOf}
-use Rattle.run.specs.Exact.{clockAfter, Ahead, NoneAhead, OnePeriod, Tells, StateExact, CheckExact}
-use Rattle.run.proofs.Lists.{by-last, no-place, last-place, place-stays}
-use Rattle.run.proofs.Logs.{noLog, Unbroken, follow, since-puts, since-takes, since-now, since-one}
-use Rattle.run.proofs.Steps.{number-done}
-use Rattle.run.proofs.Told.{neither, Like, moved, taken-told, made, made-follows, like-made, run-told}
+use Rattle.run.specs.Exact.{tick, clockAfter, Ahead, NoneAhead, OnePeriod, Tells, StateExact, CheckExact}
+use Rattle.run.proofs.Checks.{taken-follows}
+use Rattle.run.proofs.Steps.{done-rows}
+use Rattle.run.proofs.FromStart.{bagOf, going}
+use Rattle.run.proofs.Periods.{begun, since-puts, since-takes, since-now, since-one}
 
-abbrev isTake : Event → Bool
-isTake (took e) = true
-isTake (put e) = false
-isTake accepted = false
+-- the clock told by what was done is the bag's
+clock-told : (b : Bag) (es : List Event) → foldl tick (b .clock) es ≡ follow b es .clock
+unfolding tick noted empty
+clock-told b [] = refl
+clock-told b (took e ∷ es) = clock-told (noted b (took e)) es
+clock-told b (put e ∷ es) = clock-told (noted b (put e)) es
+clock-told b (accepted ∷ es) = clock-told (empty 1) es
 
--- ---- stamps that are not ahead
+module _ (all period : List Event) (since : Since all period) where
+  abbrev start : Bag
+  start = follow (empty 0) (since .past)
 
--- with one event more, no take was ahead where none was before and this is none that is
-none-last : (past es : List Event) (v : Event) → NoneAhead past (es ++ (v ∷ [])) ↔ (NoneAhead past es × ((e : Entry) → v ≡ took e → Ahead (clockAfter (past ++ es)) e → ⊥))
-none-last past es v = (
-  (λ n. ((λ p q e g. n p (q ++ (v ∷ [])) e (place-stays es p (took e) q (v ∷ []) g)), λ e h. n es [] e (ap (λ (x : Event). es ++ (x ∷ [])) h))),
-  λ h p q e g. go (h .0) (h .1) p q e (last-place es v p (took e) q g),
-)
-  where
-    go : NoneAhead past es → ((e : Entry) → v ≡ took e → Ahead (clockAfter (past ++ es)) e → ⊥) → (p q : List Event) (e : Entry)
-        → ((r : List Event) × (es ≡ p ++ (took e ∷ r)) × (q ≡ r ++ (v ∷ []))) ⊎ ((p ≡ es) × (took e ≡ v)) → Ahead (clockAfter (past ++ p)) e → ⊥
-    go n h p q e (inl (r, f, g)) = n p r e f
-    go n h p q e (inr (f, g)) = subst (λ (p : List Event). Ahead (clockAfter (past ++ p)) e → ⊥) (sym f) (h e (sym g))
+  whole : follow (empty 0) all ≡ follow start period
+  whole = ap (follow (empty 0)) (since .place) ∙ foldl-append noted (empty 0) (since .past) period
 
-no-take : (s : State) (c : ℕ) (v : Event) → isTake v ≡ false → (s .fault ≡ false) ↔ ((s .fault ≡ false) × ((e : Entry) → v ≡ took e → Ahead c e → ⊥))
-no-take s c v n = ((λ h. (h, λ e q. absurd (false≢true (sym n ∙ ap isTake q)))), λ h. h .0)
+  clock-then : (p : List Event) → clockAfter (since .past ++ p) ≡ follow start p .clock
+  unfolding empty
+  clock-then p = clock-told (empty 0) (since .past ++ p) ∙ ap (λ (b : Bag). b .clock) (foldl-append noted (empty 0) (since .past) p)
 
-module _ (tag : List ℕ → Entry → List ℕ) where
-  -- one event that is no accepted check leaves no fault where none was and it is no take that is ahead of the clock c
-  fault-moved : (s : State) (c : ℕ) → s .clock ≡ c → (v : Event) → (v ≡ accepted → ⊥) → (moved tag s v .fault ≡ false) ↔ ((s .fault ≡ false) × ((e : Entry) → v ≡ took e → Ahead c e → ⊥))
-  unfolding moved takeEntry putEntry
-  fault-moved s c t (took d) n = (
-    (λ h. let k = neither (s .fault) (ltb (s .clock) (d .stamp)) h in (k .0, λ e q a. let f : d .stamp ≡ e .stamp = cc in omega (arith, ltb-false (s .clock) (d .stamp) (k .1)))),
-    λ h. let k : Ahead c d → ⊥ = h .1 d refl in rw (h .0, le-ltb (s .clock) (d .stamp) (omega arith)),
-  )
-  fault-moved s c t (put d) n = no-take s c (put d) refl
-  fault-moved s c t accepted n = absurd (n refl)
+  calm-none : follow (empty 0) all .fault ≡ false → NoneAhead (since .past) period
+  calm-none h p q e k a = omega (arith, on-time start period (since .unbroken) (sym (ap (λ (b : Bag). b .fault) whole) ∙ h) p q e k, clock-then p)
 
-  module _ (key : List ℕ) where
-    -- by the last event: where no fault was marked before, none is exactly where no take was ahead
-    fault-made : (past : List Event) → made tag key past .fault ≡ false → (es : List Event) → Unbroken es → (made tag key (past ++ es) .fault ≡ false) ↔ NoneAhead past es
-    fault-made past h =
-        by-last (λ (es : List Event). Unbroken es → (made tag key (past ++ es) .fault ≡ false) ↔ NoneAhead past es)
-        (λ u. ((λ k p q e g. absurd (no-place p (took e) q g)), λ n. ap (λ (l : List Event). made tag key l .fault) (append-nil past) ∙ h))
-        (λ es v ih u.
-        let old = ih (λ p q k. u p (q ++ (v ∷ [])) (place-stays es p accepted q (v ∷ []) k)) in
-        let one = fault-moved (made tag key (past ++ es)) (clockAfter (past ++ es)) (made-follows tag key (past ++ es) .clock) v (λ q. u es [] (ap (λ (x : Event). es ++ (x ∷ [])) q)) in
-        let both = none-last past es v in
-        let last : made tag key (past ++ (es ++ (v ∷ []))) .fault ≡ moved tag (made tag key (past ++ es)) v .fault =
-        ap (λ (s : State). s .fault) (ap (made tag key) (sym (append-assoc past es (v ∷ []))) ∙ foldl-append (moved tag) (fresh key false) (past ++ es) (v ∷ [])) in
-        ((λ k. let j = one .0 (sym last ∙ k) in both .1 (old .0 (j .0), j .1)), λ n. let j = both .0 n in last ∙ one .1 (old .1 (j .0), j .1)))
+  none-calm : NoneAhead (since .past) period → follow (empty 0) all .fault ≡ false
+  unfolding empty
+  none-calm n =
+      ap (λ (b : Bag). b .fault) whole
+      ∙ calm-after start period (since .unbroken) (ap (λ (b : Bag). b .fault) (begun all period since .1))
+      (λ p q e k. let h : Ahead (clockAfter (since .past ++ p)) e → ⊥ = n p q e k in omega (arith, clock-then p))
 
-    -- ---- what a state tells
-
-    made-tells : (all period : List Event) (since : Since all period) → Tells tag key (made tag key all) all period since
-    unfolding fresh moved
-    made-tells all period since =
-        let h = made-follows tag key all in
-        let begun : made tag key (since .past) .fault ≡ false =
-        ⊎-elim (λ e. ap (λ (l : List Event). made tag key l .fault) e) (λ p. ap (λ (l : List Event). made tag key l .fault) (p .1) ∙ ap (λ (s : State). s .fault) (foldl-append (moved tag) (fresh key false) (p .0) (accepted ∷ []))) (since .begins) in
-        record {
-          key = h .keyed;
-          put = h .hashed .put ∙ ap (λ (k : List ℕ). hash (tag k) (follow noLog all .puts)) (h .keyed) ∙ ap (hash (tag key)) (since-puts all period since);
-          take = h .hashed .take ∙ ap (λ (k : List ℕ). hash (tag k) (follow noLog all .takes)) (h .keyed) ∙ ap (hash (tag key)) (since-takes all period since);
-          clock = h .clock;
-          fault = subst (λ (l : List Event). (made tag key l .fault ≡ false) ↔ NoneAhead (since .past) period) (sym (since .place)) (fault-made (since .past) begun period (since .unbroken));
-        }
-
-    -- and so does one that is it but for the marks
-    like-tells : (x : State) (all period : List Event) (since : Since all period) → Like x (made tag key all) → Tells tag key x all period since
-    unfolding withMarks
-    like-tells x all period since (ws, e) =
-        let h = made-tells all period since in
-        subst (λ (y : State). Tells tag key y all period since) (sym e) (record { key = h .key; put = h .put; take = h .take; clock = h .clock; fault = h .fault })
+  -- what a state tells
+  pub follows-tells : (tag : List ℕ → Entry → List ℕ) (key : List ℕ) (s : State) → Follows tag key s (follow (empty 0) all) → Tells tag key s all period since
+  unfolding empty
+  follows-tells tag key s f =
+      record {
+        key = f .key;
+        put = f .put ∙ ap (hash (tag key)) (since-puts all period since);
+        take = f .take ∙ ap (hash (tag key)) (since-takes all period since);
+        clock = f .clock ∙ sym (clock-told (empty 0) all);
+        fault = ((λ h. calm-none (sym (f .fault) ∙ h)), λ n. f .fault ∙ none-calm n);
+      }
 
 -- ---- runs
 
 pub one-period : OnePeriod
 one-period all = let now = since-now all in (now .0, now .1, λ other t. since-one all (now .0) other (now .1) t)
 
+pub check-done : (w : ℕ) (tag : List ℕ → Entry → List ℕ) (s : State) (m : List ℕ) → step w tag s m check .seen .number ≡ 0 → first (checkRows w s m) ≡ 0
+unfolding step checkOf
+check-done w tag s m = done-rows s m (checkRows w s m) [] _
+
+pub check-number : (w : ℕ) (tag : List ℕ → Entry → List ℕ) (s : State) (m : List ℕ) → first (checkRows w s m) ≡ 0 → step w tag s m check .seen .number ≡ 0
+unfolding step checkOf acceptance rejection
+check-number w tag s m e =
+    ap (λ (r : Step). r .seen .number) (call-done (checkRows w s m) s m [] _ e) ∙ by-cond (λ (r : Step). r .seen .number ≡ 0) (agrees (takeAll w tag s m)) (λ k. refl) (λ k. refl)
+
 pub state-exact : (w : ℕ) (tag : List ℕ → Entry → List ℕ) → StateExact w tag
-state-exact w tag key run o period since = like-tells tag key (stateAfter w tag key run) (eventsOf w tag key run) period since (run-told w tag key run o)
+state-exact w tag key run o period since = follows-tells (eventsOf w tag key run) period since tag key (stateAfter w tag key run) (going w tag key run .known o .0)
+
+-- the state after the takes of a check follows them
+pub check-follows : (w : ℕ) (tag : List ℕ → Entry → List ℕ) (key : List ℕ) (run : List Lent) (m : List ℕ) → let s = stateAfter w tag key run in s .closed ≡ false
+    → Follows tag key (takeAll w tag s m) (follow (empty 0) (eventsOf w tag key run ++ takes w s m))
+check-follows w tag key run m o =
+    let s = stateAfter w tag key run in
+    let k = going w tag key run .known o in
+    subst (Follows tag key (takeAll w tag s m)) (sym (foldl-append noted (empty 0) (eventsOf w tag key run) (takes w s m))) (taken-follows w tag key s m (bagOf w tag key run) (k .0) (k .1))
 
 pub check-exact : (w : ℕ) (tag : List ℕ → Entry → List ℕ) → CheckExact w tag
 unfolding step
@@ -115,11 +102,7 @@ check-exact w tag key run m d period since = (
     s = stateAfter w tag key run
 
     e : first (checkRows w s m) ≡ 0
-    e = number-done w tag s m check d
+    e = check-done w tag s m d
 
-    all : List Event
-    all = eventsOf w tag key run ++ takes w s m
-
-    -- the state after the check's takes
-    h : Tells tag key (takeAll w tag s m) all period since
-    h = like-tells tag key (takeAll w tag s m) all period since (subst (λ (x : State). Like x (made tag key all)) (sym (taken-told tag w s m)) (like-made tag key s (eventsOf w tag key run) (takes w s m) (run-told w tag key run (check-ready w s m e .0))))
+    h : Tells tag key (takeAll w tag s m) (eventsOf w tag key run ++ takes w s m) period since
+    h = follows-tells (eventsOf w tag key run ++ takes w s m) period since tag key (takeAll w tag s m) (check-follows w tag key run m (check-ready w s m e .0))

@@ -1,216 +1,182 @@
--- What each call that is done keeps: where every take of the period was right, what is held at an address has the value last set there. Assumes nothing.
-use mathlib.Core.Path.{_≡_, refl, sym, ap, _∙_}
-use mathlib.Core.Bool.{Bool, true, false, cond, not, _&&_, _||_, false≢true}
-use mathlib.Core.List.{List}
-use mathlib.Core.Option.{Option, none, some}
-use mathlib.Core.Logic.{_⊎_, inl, inr}
-use Prim.Native.Nat.{ℕ}
-use lib.Dec.{eqb, ltb}
-use lib.ListN.{length}
-use borrow.Author.Tests.{eqb-true, ltb-true, ltb-false}
+-- Add, load, store and remove, where they are done: each takes or puts at one address, and leaves what is held elsewhere. Assumes nothing.
+use mathlib.Core.Path.{_≡_, refl, sym, ap, _∙_, subst}
+use mathlib.Core.Bool.{Bool, true, false}
+use mathlib.Core.List.{List, [], _∷_}
+use mathlib.Core.Option.{none, some}
+use mathlib.Core.Logic.{inl, inr, _≢_}
+use Prim.Native.Nat.{ℕ, _+_}
+use native.Mathlib.Omega.{arith}
+use lib.Dec.{eqb}
+use lib.ListN.{length, replicate, length-replicate}
+use borrow.Author.Tests.{eqb-true, eqb-false, eq-eqb}
 use Rattle.refusal.specs.Refusal.{first}
-use Rattle.state.specs.Sizes.{addresses}
+use Rattle.state.specs.Sizes.{valueSize, ceiling}
 use Rattle.state.specs.Marks.{used, marked, unmarked}
-use Rattle.state.specs.Cells.{Entry, valueAt, entryAt}
-use Rattle.state.specs.Step.{withMarks, next, takeEntry, putEntry}
-use Rattle.state.specs.Moves.{addRows, removeRows, added, removed}
-use Rattle.state.specs.Check.{opening, takeAll, putAll}
+use Rattle.state.specs.Cells.{Entry, valueAt, entryAt, writeEntry}
+use Rattle.state.specs.Step.{took, put, seen, step, withMarks, next, takeEntry, putEntry}
+use Rattle.state.specs.Moves.{addRows, useRows, removeRows, added, loaded, stored, removed}
 use Rattle.state.specs.declared.State.{State}
-use Rattle.state.proofs.Guards.{opens}
-use Rattle.state.proofs.Marks.{used-marked, used-unmarked, length-marked, length-unmarked, used-below}
-use Rattle.run.proofs.Logs.{Log, upd, putL, takeL, noted, follow}
-use Rattle.run.proofs.Balance.{upd-same, upd-other, upd-here}
-use Rattle.run.proofs.Micro.{Status, faulty, bad, good, status-map, take-status, put-status}
-use Rattle.run.proofs.Walk.{openL, Right, Differs, check-tells, open-above, open-held, open-balance}
-use Rattle.state.proofs.Ready.{Ready, add-ready, remove-ready}
+use Rattle.state.specs.declared.Verdict.the-variants.{Nothing}
+use Rattle.state.proofs.Cells.{value-length}
+use Rattle.state.proofs.Marks.{used-marked, used-unmarked, length-marked, length-unmarked}
+use Rattle.state.proofs.Ready.{Ready, add-ready, use-ready, remove-ready}
+use Rattle.bag.specs.Bag.{Bag, upd, noted}
+use Rattle.bag.specs.Claims.{Follows, Holds, InCell}
+use Rattle.bag.proofs.Unbroken.{unbroken}
+use Rattle.bag.proofs.Orderly.{there, none-some, upd-other, upd-here}
+use Rattle.bag.proofs.Follows.{take-follows, put-follows}
+use Rattle.bag.proofs.Sizes.{taken-fits}
+use Rattle.bag.proofs.Walks.{held-some, held-none}
+use Rattle.bag.proofs.Stores.{take-holds, put-holds, free-holds}
+use Rattle.run.specs.Calls.{Call, add, load, store, remove}
+use Rattle.run.specs.Demand3.{Sets}
+use Rattle.run.proofs.Does.{Fit, Room, Kept, Does}
 
-abbrev pub there : Option Entry → Bool
-there none = false
-there (some e) = true
+-- ---- marks and what is held
 
--- an address is in use where an entry is held
-pub record Fit (s : State) (l : Log) : Type 0 where
-  pub marked : (a : ℕ) → used (s .marks) a ≡ there (l .held a)
-  pub sixteen : length (s .marks) ≡ 16
-
--- what is held has the value that Set tells of its address
-abbrev pub Vals : Log → (ℕ → List ℕ → Type 0) → Type 0
-Vals l Set = (a : ℕ) (e : Entry) → l .held a ≡ some e → Set a (e .value)
-
--- all that is kept of a run, as long as its state is not closed: C is a collision already shown, and R is what is known of the loads
-pub record All (s : State) (l : Log) (Set : ℕ → List ℕ → Type 0) (C R : Type 0) : Type 0 where
-  pub fit : Fit s l
-  pub status : C ⊎ Status s l (Vals l Set × R)
-
-pub free : (s : State) (l : Log) (a : ℕ) → Fit s l → used (s .marks) a ≡ false → l .held a ≡ none
-free s l a fit u = go (l .held a) refl
-  where
-    go : (o : Option Entry) → l .held a ≡ o → l .held a ≡ none
-    go none e = e
-    go (some d) e = absurd (false≢true (sym u ∙ fit .marked a ∙ ap there e))
-
-pub then : {A B C : Type 0} → (B → C) → A ⊎ B → A ⊎ C
-then f (inl a) = inl a
-then f (inr b) = inr (f b)
-
-pub all-map : {s : State} {l : Log} {Set Set′ : ℕ → List ℕ → Type 0} {C R D S : Type 0}
-    → ((a : ℕ) (v : List ℕ) → Set a v → Set′ a v) → (C → D) → (R → S) → All s l Set C R → All s l Set′ D S
-all-map {s = s} {l = l} {Set = Set} {Set′ = Set′} {C = C} {R = R} {D = D} {S = S} f g k x = record { fit = x .fit; status = go (x .status) }
-  where
-    go : C ⊎ Status s l (Vals l Set × R) → D ⊎ Status s l (Vals l Set′ × S)
-    go (inl c) = inl (g c)
-    go (inr t) = inr (status-map (λ q. (λ a e h. f a (e .value) (q .0 a e h), k (q .1))) t)
-
--- ---- what is held after a put, and after a take
-
-vals-put : (g : ℕ → Option Entry) (Set : ℕ → List ℕ → Type 0) (a : ℕ) (d : Entry) → Set a (d .value) → ((b : ℕ) (e : Entry) → eqb b a ≡ false → g b ≡ some e → Set b (e .value))
-    → (b : ℕ) (e : Entry) → upd g a (some d) b ≡ some e → Set b (e .value)
-vals-put g Set a d h k b e q = go (eqb b a) refl
-  where
-    go : (t : Bool) → eqb b a ≡ t → Set b (e .value)
-    go true p =
-        let z : some d ≡ some e = sym (upd-same g a (some d) b p) ∙ q in
-        let y : d ≡ e = cc in
-        let x : a ≡ b = sym (eqb-true b a p) in
-        rw (← x, ← y) h
-    go false p = k b e p (sym (upd-other g a (some d) b p) ∙ q)
-
-vals-take : (g : ℕ → Option Entry) (Set : ℕ → List ℕ → Type 0) (a : ℕ) → ((b : ℕ) (e : Entry) → g b ≡ some e → Set b (e .value)) → (b : ℕ) (e : Entry) → upd g a none b ≡ some e → Set b (e .value)
-vals-take g Set a k b e q = go (eqb b a) refl
-  where
-    go : (t : Bool) → eqb b a ≡ t → Set b (e .value)
-    go true p = absurd (false≢true (ap there (sym (upd-same g a none b p) ∙ q)))
-    go false p = k b e (sym (upd-other g a none b p) ∙ q)
-
--- other marks are nothing to the status
-marks-status : {Q : Type 0} (s : State) (l : Log) (ws : List ℕ) → Status s l Q → Status (withMarks s ws) l Q
+marks-follow : (tag : List ℕ → Entry → List ℕ) (key : List ℕ) (s : State) (b : Bag) (ws : List ℕ) → Follows tag key s b → Follows tag key (withMarks s ws) b
 unfolding withMarks
-marks-status s l ws (faulty e) = faulty e
-marks-status s l ws (bad c h k) = bad c h k
-marks-status s l ws (good b q) = good b q
+marks-follow tag key s b ws f = record { key = f .key; put = f .put; take = f .take; clock = f .clock; fault = f .fault }
 
--- after the puts that open a period each address in use is held with the entry that opens it
-pub opened-held : (w : ℕ) (s : State) (m : List ℕ) → length (s .marks) ≡ 16 → (a : ℕ) → openL w s m addresses .held a ≡ cond (used (s .marks) a) (some (opening w m a)) none
-opened-held w s m sixteen a = go (used (s .marks) a) refl (ltb a addresses) refl
-  where
-    go : (u : Bool) → used (s .marks) a ≡ u → (b : Bool) → ltb a addresses ≡ b → openL w s m addresses .held a ≡ cond (used (s .marks) a) (some (opening w m a)) none
-    go u e true h = open-held w s m addresses a (ltb-true a addresses h)
-    go true e false h = open-held w s m addresses a (used-below (s .marks) a sixteen e)
-    go false e false h = open-above w s m addresses a (ltb-false a addresses h) ∙ rw e
+-- an address that is not in use holds nothing, and one in use something
+free : (s : State) (b : Bag) → Fit s b → (a : ℕ) → used (s .marks) a ≡ false → b .held a ≡ none
+free s b t a u = held-none (b .held a) (sym (t .marked a) ∙ u)
 
-module _ (w : ℕ) (tag : List ℕ → Entry → List ℕ) (s : State) (m : List ℕ) (l : Log) (Set : ℕ → List ℕ → Type 0) (C R : Type 0) (x : All s l Set C R) where
+held : (s : State) (b : Bag) → Fit s b → (a : ℕ) → used (s .marks) a ≡ true → (d : Entry) × (b .held a ≡ some d)
+held s b t a u = held-some (b .held a) (sym (t .marked a) ∙ u)
+
+-- an honest store has at an address in use what is held there
+held-there : (w : ℕ) (s : State) (b : Bag) (m : List ℕ) → Fit s b → Holds w b m → (a : ℕ) → used (s .marks) a ≡ true → b .held a ≡ some (entryAt w m a)
+held-there w s b m t h a u = let d = held s b t a u in d .1 ∙ ap some (sym (h a (d .0) (d .1)))
+
+-- ---- one address
+
+-- a bag x and a state r after a call that touches the address a alone
+module _ (s : State) (b : Bag) (t : Fit s b) (a : ℕ) (x : Bag) (elsewhere : (n : ℕ) → eqb n a ≡ false → x .held n ≡ b .held n) where
+  fit-at : (r : State) → length (r .marks) ≡ length (s .marks) → ((n : ℕ) → eqb n a ≡ false → used (r .marks) n ≡ used (s .marks) n)
+      → used (r .marks) a ≡ there (x .held a) → Fit r x
+  fit-at r l same here = record { marked = λ n. go n (eqb n a) refl; sixteen = l ∙ t .sixteen }
+    where
+      go : (n : ℕ) (u : Bool) → eqb n a ≡ u → used (r .marks) n ≡ there (x .held n)
+      go n true q = subst (λ (z : ℕ). used (r .marks) z ≡ there (x .held z)) (sym (eqb-true n a q)) here
+      go n false q = same n q ∙ t .marked n ∙ ap there (sym (elsewhere n q))
+
+  kept-at : (c : Call) → ((n : ℕ) (v : List ℕ) → Sets c n v → n ≡ a) → ((e : Entry) → x .held a ≡ some e → Kept b c a e) → (n : ℕ) (e : Entry) → x .held n ≡ some e → Kept b c n e
+  kept-at c only here n e k = go (eqb n a) refl
+    where
+      go : (u : Bool) → eqb n a ≡ u → Kept b c n e
+      go true q = let z : n ≡ a = eqb-true n a q in subst (λ (y : ℕ). Kept b c y e) (sym z) (here e (ap (x .held) (sym z) ∙ k))
+      go false q = inr ((λ v h. eqb-false n a q (only n v h)), (e, sym (elsewhere n q) ∙ k, refl))
+
+-- what calls set
+add-sets : (a : ℕ) (v : List ℕ) (n : ℕ) (u : List ℕ) → Sets (add a v) n u → n ≡ a
+add-sets a v n u (inl e) = cc
+add-sets a v n u (inr e) = cc
+
+store-sets : (a : ℕ) (v : List ℕ) (n : ℕ) (u : List ℕ) → Sets (store a v) n u → n ≡ a
+store-sets a v n u (inl e) = cc
+store-sets a v n u (inr e) = cc
+
+load-sets : (a : ℕ) (o : List ℕ) (n : ℕ) (u : List ℕ) {A : Type 0} → Sets (load a o) n u → A
+load-sets a o n u (inl e) = let z : _≡_ {A = ℕ} 0 1 = cc in absurd (omega arith)
+load-sets a o n u (inr e) = let z : _≡_ {A = ℕ} 0 1 = cc in absurd (omega arith)
+
+remove-sets : (a n : ℕ) (u : List ℕ) {A : Type 0} → Sets (remove a) n u → A
+remove-sets a n u (inl e) = let z : _≡_ {A = ℕ} 0 1 = cc in absurd (omega arith)
+remove-sets a n u (inr e) = let z : _≡_ {A = ℕ} 0 1 = cc in absurd (omega arith)
+
+module _ (w : ℕ) (tag : List ℕ → Entry → List ℕ) (key : List ℕ) (s : State) (m : List ℕ) (b : Bag) (f : Follows tag key s b) (t : Fit s b) where
+  next-fits : (u : Bool) (a : ℕ) (v : List ℕ) → Ready w s m a u → length v ≡ valueSize → s .clock ≢ ceiling w → Room w b → InCell w (next s a v)
+  unfolding next
+  next-fits u a v p l time g = record { address = p .below; value = l; stamp = omega (arith, f .clock) }
+
   -- ---- add
 
-  fit-add : (a : ℕ) (v : List ℕ) → Ready w s m a false → Fit (withMarks (putEntry tag s (next s a v)) (marked (s .marks) a)) (putL l (next s a v))
-  unfolding putEntry putL next withMarks
-  fit-add a v p = record { marked = λ b. used-marked (s .marks) a (x .fit .sixteen) (p .below) b ∙ go b (eqb b a) refl; sixteen = length-marked (s .marks) a ∙ x .fit .sixteen }
-    where
-      go : (b : ℕ) (t : Bool) → eqb b a ≡ t → (eqb b a || used (s .marks) b) ≡ there (upd (l .held) a (some (next s a v)) b)
-      go b true e = rw (upd-same (l .held) a (some (next s a v)) b e, e)
-      go b false e = rw (upd-other (l .held) a (some (next s a v)) b e, e) (x .fit .marked b)
-
-  pub add-all : (Set′ : ℕ → List ℕ → Type 0) (a : ℕ) (v : List ℕ) → Set′ a v → ((b : ℕ) (u : List ℕ) → eqb b a ≡ false → Set b u → Set′ b u)
-      → first (addRows w s m a v) ≡ 0 → All (added w tag s m a v .seen .state) (follow l (added w tag s m a v .events)) Set′ C R
-  unfolding added noted next putL
-  add-all Set′ a v h k e =
-      let p = add-ready w s m a v e .0 in
+  pub add-does : (a : ℕ) (v : List ℕ) → first (addRows w s m a v) ≡ 0 → Does w tag key s m b (add a v) (added w tag s m a v)
+  unfolding added noted next putEntry withMarks
+  add-does a v e =
+      let p = add-ready w s m a v e in
       let d = next s a v in
+      let fits = next-fits false a v (p .0) (p .1 .size) (p .1 .time) in
+      let elsewhere : (n : ℕ) → eqb n a ≡ false → upd (b .held) a (some d) n ≡ b .held n = upd-other (b .held) a (some d) in
       record {
-        fit = fit-add a v p;
-        status =
-            then
-            (λ t.
-            status-map (λ y. (vals-put (l .held) Set′ a d h (λ b c n g. k b (c .value) n (y .0 b c g)), y .1))
-            (marks-status (putEntry tag s d) (putL l d) (marked (s .marks) a) (put-status tag s l d refl (free s l a (x .fit) (p .mark)) t)))
-            (x .status);
+        number = refl;
+        lawful = ((free s b t a (p .0 .mark), inl (ap (λ (c : ℕ). c + 1) (f .clock))), tt);
+        follows = λ o. marks-follow tag key (putEntry tag s d) (noted b (put d)) (marked (s .marks) a) (put-follows tag key s b d f);
+        fit = λ o. fit-at s b t a (noted b (put d)) elsewhere _ (length-marked (s .marks) a) (λ n q. used-marked (s .marks) a (t .sixteen) (p .0 .below) n ∙ rw q) (used-marked (s .marks) a (t .sixteen) (p .0 .below) a ∙ rw (eq-eqb a a refl, upd-here (b .held) a (some d)));
+        putFits = λ g. (fits g, tt);
+        takeFits = λ h. (tt, tt);
+        honest = λ g h. ((tt, tt), put-holds w b m h (p .0 .size) d (fits g));
+        kept = λ r. kept-at s b t a (noted b (put d)) elsewhere (add a v) (add-sets a v) (λ c k. let z : some d ≡ some c = sym (upd-here (b .held) a (some d)) ∙ k in let y : d ≡ c = cc in inl (inl (ap (λ (g : Entry). add a (g .value)) y)));
+        answers = λ n o q. let z : _≡_ {A = ℕ} 0 1 = cc in absurd (omega arith);
+        accepts = λ x y q. absurd (unbroken (put d ∷ []) refl x y q);
       }
 
-  -- ---- load and store: an exchange
+  -- ---- load and store: the cell of an address is taken, and a value put there
 
   module _ (a : ℕ) (v : List ℕ) where
-    -- the state and the log after the cell of a is taken and v is put there
-    abbrev pub exchanged : State
-    exchanged = putEntry tag (takeEntry tag s (entryAt w m a)) (next (takeEntry tag s (entryAt w m a)) a v)
+    abbrev old : Entry
+    old = entryAt w m a
 
-    abbrev pub exchangedL : Log
-    exchangedL = putL (takeL l (entryAt w m a)) (next (takeEntry tag s (entryAt w m a)) a v)
+    abbrev new : Entry
+    new = next (takeEntry tag s old) a v
 
-    fit-exchange : used (s .marks) a ≡ true → Fit exchanged exchangedL
-    unfolding takeEntry putEntry takeL putL entryAt next
-    fit-exchange u = record { marked = λ b. go b (eqb b a) refl; sixteen = x .fit .sixteen }
-      where
-        d : Entry
-        d = next s a v
-
-        go : (b : ℕ) (t : Bool) → eqb b a ≡ t → used (s .marks) b ≡ there (upd (upd (l .held) a none) a (some d) b)
-        go b true e = rw (upd-same (upd (l .held) a none) a (some d) b e) (ap (used (s .marks)) (eqb-true b a e) ∙ u)
-        go b false e = rw (upd-other (upd (l .held) a none) a (some d) b e, upd-other (l .held) a none b e) (x .fit .marked b)
-
-    pub exchange-all : (Set′ : ℕ → List ℕ → Type 0) (S : Type 0) → (Set a (valueAt w m a) → Set′ a v) → ((b : ℕ) (u : List ℕ) → eqb b a ≡ false → Set b u → Set′ b u)
-        → (Set a (valueAt w m a) → R → S) → Ready w s m a true → All exchanged exchangedL Set′ C S
-    unfolding takeL putL next entryAt
-    exchange-all Set′ S h k g p =
-        let t = takeEntry tag s (entryAt w m a) in
-        let d = next t a v in
+    exchange-does : (c : Call) (out : List ℕ) → Ready w s m a true → length v ≡ valueSize → s .clock ≢ ceiling w
+        → ((n : ℕ) (u : List ℕ) → Sets c n u → n ≡ a) → (b .held a ≡ some old → Kept b c a new)
+        → ((n : ℕ) (o : List ℕ) → c ≡ load n o → b .held a ≡ some old → (d : Entry) × (b .held n ≡ some d) × (d .value ≡ out))
+        → Does w tag key s m b c (step (seen 0 Nothing (putEntry tag (takeEntry tag s old) new) (writeEntry w m new) out) (took old ∷ put new ∷ []))
+    unfolding noted next takeEntry putEntry entryAt
+    exchange-does c out p l time only here answer =
+        let taken : Bag = noted b (took old) in
+        let fits = next-fits true a v p l time in
+        let elsewhere : (n : ℕ) → eqb n a ≡ false → upd (upd (b .held) a none) a (some new) n ≡ b .held n =
+        λ n q. upd-other (upd (b .held) a none) a (some new) n q ∙ upd-other (b .held) a none n q in
         record {
-          fit = fit-exchange (p .mark);
-          status =
-              then
-              (λ q.
-              status-map (λ y. let z = y .0 .0 a (entryAt w m a) (y .1) in (vals-put (upd (l .held) a none) Set′ a d (h z) (λ b c n f. k b (c .value) n (y .0 .0 b c (sym (upd-other (l .held) a none b n) ∙ f))), g z (y .0 .1)))
-              (put-status tag t (takeL l (entryAt w m a)) d refl (upd-here (l .held) a none) (take-status tag s l (entryAt w m a) q)))
-              (x .status);
+          number = refl;
+          lawful = (held s b t a (p .mark), ((upd-here (b .held) a none, inl (ap (λ (c : ℕ). c + 1) (f .clock))), tt));
+          follows = λ o. put-follows tag key (takeEntry tag s old) taken new (take-follows tag key s b old f);
+          fit = λ o. fit-at s b t a (noted taken (put new)) elsewhere _ refl (λ n q. refl) (p .mark ∙ ap there (sym (upd-here (upd (b .held) a none) a (some new))));
+          putFits = λ g. (tt, (fits g, tt));
+          takeFits = λ h. (taken-fits w m h a (p .below) (p .size), (tt, tt));
+          honest = λ g h. ((held-there w s b m t h a (p .mark), (tt, tt)), put-holds w taken m (take-holds w b m h old) (p .size) new (fits g));
+          kept =
+              λ r. kept-at s b t a (noted taken (put new)) elsewhere c only
+              (λ d k. let z : some new ≡ some d = sym (upd-here (upd (b .held) a none) a (some new)) ∙ k in let y : new ≡ d = cc in subst (Kept b c a) y (here (r .0)));
+          answers = λ n o q r. answer n o q (r .0);
+          accepts = λ x y q. absurd (unbroken (took old ∷ put new ∷ []) refl x y q);
         }
+
+  pub load-does : (a : ℕ) (o : List ℕ) → first (useRows w s m a o) ≡ 0 → Does w tag key s m b (load a o) (loaded w tag s m a)
+  unfolding loaded entryAt next
+  load-does a o e =
+      let p = use-ready w s m a o e in
+      exchange-does a (valueAt w m a) (load a o) (valueAt w m a) (p .0) (value-length w m a (p .0 .below) (p .0 .size)) (p .1 .time) (λ n u h. load-sets a o n u h)
+      (λ k. inr ((λ u h. load-sets a o a u h), (entryAt w m a, k, refl))) (λ n u q k. let z : n ≡ a = cc in (entryAt w m a, ap (b .held) z ∙ k, refl))
+
+  pub store-does : (a : ℕ) (v : List ℕ) → first (useRows w s m a v) ≡ 0 → Does w tag key s m b (store a v) (stored w tag s m a v)
+  unfolding stored next
+  store-does a v e =
+      let p = use-ready w s m a v e in
+      exchange-does a v (store a v) [] (p .0) (p .1 .size) (p .1 .time) (store-sets a v) (λ k. inl (inr refl)) (λ n o q. let z : _≡_ {A = ℕ} 0 1 = cc in absurd (omega arith))
 
   -- ---- remove
 
-  pub remove-all : (a : ℕ) → first (removeRows w s m a) ≡ 0 → All (removed w tag s m a .seen .state) (follow l (removed w tag s m a .events)) Set C R
-  unfolding removed noted takeL entryAt withMarks takeEntry
-  remove-all a e =
+  pub remove-does : (a : ℕ) → first (removeRows w s m a) ≡ 0 → Does w tag key s m b (remove a) (removed w tag s m a)
+  unfolding removed noted takeEntry withMarks entryAt
+  remove-does a e =
       let p = remove-ready w s m a e in
-      let d = entryAt w m a in
+      let old = entryAt w m a in
+      let elsewhere : (n : ℕ) → eqb n a ≡ false → upd (b .held) a none n ≡ b .held n = upd-other (b .held) a none in
       record {
-        fit = record { marked = λ b. used-unmarked (s .marks) a (x .fit .sixteen) (p .below) b ∙ go b (eqb b a) refl; sixteen = length-unmarked (s .marks) a ∙ x .fit .sixteen };
-        status = then (λ t. status-map (λ y. (vals-take (l .held) Set a (y .0 .0), y .0 .1)) (marks-status (takeEntry tag s d) (takeL l d) (unmarked (s .marks) a) (take-status tag s l d t))) (x .status);
+        number = refl;
+        lawful = (held s b t a (p .mark), tt);
+        follows = λ o. marks-follow tag key (takeEntry tag s old) (noted b (took old)) (unmarked (s .marks) a) (take-follows tag key s b old f);
+        fit = λ o. fit-at s b t a (noted b (took old)) elsewhere _ (length-unmarked (s .marks) a) (λ n q. used-unmarked (s .marks) a (t .sixteen) (p .below) n ∙ rw q) (used-unmarked (s .marks) a (t .sixteen) (p .below) a ∙ rw (eq-eqb a a refl, upd-here (b .held) a none));
+        putFits = λ g. (tt, tt);
+        takeFits = λ h. (taken-fits w m h a (p .below) (p .size), tt);
+        honest =
+            λ g h. ((held-there w s b m t h a (p .mark), tt), free-holds w (noted b (took old)) m (take-holds w b m h old) (p .size) a (upd-here (b .held) a none) (p .below) (replicate valueSize 0) 0 (length-replicate valueSize 0));
+        kept = λ r. kept-at s b t a (noted b (took old)) elsewhere (remove a) (λ n u h. remove-sets a n u h) (λ d k. none-some (upd-here (b .held) a none) k);
+        answers = λ n o q. let z : _≡_ {A = ℕ} 0 1 = cc in absurd (omega arith);
+        accepts = λ x y q. absurd (unbroken (took old ∷ []) refl x y q);
       }
-    where
-      go : (b : ℕ) (t : Bool) → eqb b a ≡ t → (not (eqb b a) && used (s .marks) b) ≡ there (upd (l .held) a none b)
-      go b true q = rw (upd-same (l .held) a none b q, q)
-      go b false q = rw (upd-other (l .held) a none b q, q) (x .fit .marked b)
-
-  -- ---- an accepted check
-
-  there-cond : (b : Bool) (e : Entry) → b ≡ there (cond b (some e) none)
-  there-cond true e = refl
-  there-cond false e = refl
-
-  vals-open : Vals l Set → Right w s m l addresses → Vals (openL w s m addresses) Set
-  unfolding entryAt opening
-  vals-open v right a e h = go (used (s .marks) a) refl
-    where
-      go : (b : Bool) → used (s .marks) a ≡ b → Set a (e .value)
-      go true u =
-          let z : some (opening w m a) ≡ some e = sym (opened-held w s m (x .fit .sixteen) a ∙ rw u) ∙ h in
-          let y : opening w m a ≡ e = cc in
-          rw (← y) (v a (entryAt w m a) (right a (used-below (s .marks) a (x .fit .sixteen) u) u))
-      go false u = let z : none ≡ some e = sym (opened-held w s m (x .fit .sixteen) a ∙ rw u) ∙ h in absurd (false≢true (ap there z))
-
-  pub accepted-all : takeAll w tag s m .fault ≡ false → All (putAll w tag s m) (openL w s m addresses) Set (Differs w s m l ⊎ C) R
-  accepted-all e =
-      let o = opens w tag s m in
-      record {
-        fit =
-            record {
-              marked = λ a. ap (λ (ws : List ℕ). used ws a) (o .marks) ∙ there-cond (used (s .marks) a) (opening w m a) ∙ ap there (sym (opened-held w s m (x .fit .sixteen) a));
-              sixteen = ap length (o .marks) ∙ x .fit .sixteen;
-            };
-        status = go (x .status);
-      }
-    where
-      told : Differs w s m l ⊎ ((Vals l Set × R) × Right w s m l addresses) → (Differs w s m l ⊎ C) ⊎ Status (putAll w tag s m) (openL w s m addresses) (Vals (openL w s m addresses) Set × R)
-      told (inl t) = inl (inl t)
-      told (inr y) = inr (good (open-balance w s m addresses) (vals-open (y .0 .0) (y .1), y .0 .1))
-
-      go : C ⊎ Status s l (Vals l Set × R) → (Differs w s m l ⊎ C) ⊎ Status (putAll w tag s m) (openL w s m addresses) (Vals (openL w s m addresses) Set × R)
-      go (inl c) = inl (inr c)
-      go (inr t) = told (check-tells w s m tag l t e)

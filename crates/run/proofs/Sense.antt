@@ -6,63 +6,62 @@ use mathlib.Core.List.{List, [], _∷_, _++_, append-assoc}
 use mathlib.Core.Logic.{_⊎_, inl, inr}
 use Prim.Native.Nat.{ℕ, _≤_}
 use lib.ListN.{length}
-use Rattle.refusal.specs.Refusal.{first}
-use Rattle.state.specs.Sizes.{addresses}
+use Rattle.refusal.specs.Refusal.{Row, first}
 use Rattle.state.specs.Marks.{used}
 use Rattle.state.specs.Cells.{Entry, entryAt}
 use Rattle.state.specs.Counts.{times}
-use Rattle.state.specs.Moves.{addRows, useRows, removeRows}
-use Rattle.state.specs.Check.{checkRows}
+use Rattle.state.specs.Step.{Event, Step}
+use Rattle.state.specs.Moves.{addRows, useRows, removeRows, call, added, addOf, loaded, loadOf, stored, storeOf, removed, removeOf}
+use Rattle.state.specs.Check.{checkRows, agrees, takes, takeAll, acceptance, rejection, checkOf}
 use Rattle.state.specs.declared.State.{State}
-use Rattle.run.specs.Calls.{Call, add, load, store, remove, check, look, count, lowest, Lent, lent}
-use Rattle.run.specs.Demand3.{Latest, stateAfter, result, Done, Moves, Collision, Unaltered}
+use Rattle.state.proofs.Ready.{call-done}
+use Rattle.bag.proofs.Lists.{last-place, place-stays}
+use Rattle.bag.proofs.Cases.{by-cond}
+use Rattle.run.specs.Calls.{Call, add, load, store, remove, check, look, count, lowest, Lent, lent, step}
+use Rattle.run.specs.Demand3.{Latest, stateAfter, result, eventsOf, Done, Moves, Unaltered}
 use Rattle.run.specs.Sense.{HonestNoCollision, UnusedMayChange}
-use Rattle.run.proofs.Lists.{last-place, place-stays}
-use Rattle.run.proofs.Logs.{Log}
-use Rattle.run.proofs.Walk.{taken-puts}
-use Rattle.run.proofs.Steps.{rowsOf, done-number, number-done}
-use Rattle.run.proofs.Runs.{logOf}
-use Rattle.run.proofs.Alike.{period-puts, period-takes}
-use Rattle.run.proofs.Sound.{accepts-agrees}
+use Rattle.run.proofs.Steps.{done-rows}
+use Rattle.run.proofs.Periods.{since-puts, since-takes}
+use Rattle.run.proofs.Accepted.{accepts-gives}
 use Rattle.run.proofs.Complete.{check-even, unaltered-part}
 
 -- ---- an honest run has no collision
 
 pub honest-no-collision : (w : ℕ) → 1 ≤ w → (tag : List ℕ → Entry → List ℕ) → HonestNoCollision w tag
+unfolding acceptance
 honest-no-collision w one tag key run u c =
     c .differ .1
-    (ap (times e) (sym (period-puts w tag key (c .before) (c .bytes) (c .period) (c .since)) ∙ sym (taken-puts w s (c .bytes) l addresses))
-    ∙ check-even w one tag key (c .before) (c .bytes) here done e
-    ∙ ap (times e) (period-takes w tag key (c .before) (c .bytes) (c .period) (c .since)))
+    (ap (times e) (sym (since-puts all (c .period) (c .since))) ∙ check-even w one tag key (c .before) (c .bytes) here done e ∙ ap (times e) (since-takes all (c .period) (c .since)))
   where
     e : Entry
     e = c .differ .0
 
-    s : State
-    s = stateAfter w tag key (c .before)
-
-    l : Log
-    l = logOf w tag key (c .before)
+    all : List Event
+    all = eventsOf w tag key (c .before) ++ takes w (stateAfter w tag key (c .before)) (c .bytes)
 
     done : Done w tag key (c .before) (lent check (c .bytes))
-    done = done-number w tag s (c .bytes) check (accepts-agrees w tag s (c .bytes) (c .accepts) .0)
+    done = ap (λ (r : Step). r .seen .number) (accepts-gives w tag (stateAfter w tag key (c .before)) (c .bytes) (c .accepts))
 
     here : Unaltered w tag key (c .before ++ (lent check (c .bytes) ∷ []))
     here = unaltered-part w one tag key (c .before ++ (lent check (c .bytes) ∷ [])) (c .later) (subst (Unaltered w tag key) (c .place ∙ sym (append-assoc (c .before) (lent check (c .bytes) ∷ []) (c .later))) u)
 
 -- ---- what is not in use may change
 
--- the rows of a call look at the length of the store alone
-rows-by-length : (w : ℕ) (s : State) (m n : List ℕ) → length n ≡ length m → (c : Call) → rowsOf w s n c ≡ rowsOf w s m c
-unfolding addRows useRows removeRows checkRows
-rows-by-length w s m n e (add a v) = rw e
-rows-by-length w s m n e (load a o) = rw e
-rows-by-length w s m n e (store a v) = rw e
-rows-by-length w s m n e (remove a) = rw e
-rows-by-length w s m n e check = rw e
-rows-by-length w s m n e (look a) = refl
-rows-by-length w s m n e count = refl
-rows-by-length w s m n e lowest = refl
+-- the rows of a call look at the length of the store alone, so with another store of that length it is done too
+module _ (w : ℕ) (tag : List ℕ → Entry → List ℕ) (s : State) (m n : List ℕ) (size : length n ≡ length m) where
+  again : (p q : List Row) (o : List ℕ) (x y : Step) → q ≡ p → y .seen .number ≡ 0 → call p s n o x .seen .number ≡ 0 → call q s m o y .seen .number ≡ 0
+  again p q o x y e z h = ap (λ (r : Step). r .seen .number) (call-done q s m o y (ap first e ∙ done-rows s n p o x h)) ∙ z
+
+  done-again : (c : Call) → step w tag s n c .seen .number ≡ 0 → step w tag s m c .seen .number ≡ 0
+  unfolding step addOf loadOf storeOf removeOf checkOf addRows useRows removeRows checkRows added loaded stored removed acceptance rejection
+  done-again (add a v) = again (addRows w s n a v) (addRows w s m a v) [] _ _ (rw size) refl
+  done-again (load a o) = again (useRows w s n a o) (useRows w s m a o) o _ _ (rw size) refl
+  done-again (store a v) = again (useRows w s n a v) (useRows w s m a v) [] _ _ (rw size) refl
+  done-again (remove a) = again (removeRows w s n a) (removeRows w s m a) [] _ _ (rw size) refl
+  done-again check = again (checkRows w s n) (checkRows w s m) [] _ _ (rw size) (by-cond (λ (r : Step). r .seen .number ≡ 0) (agrees (takeAll w tag s m)) (λ k. refl) (λ k. refl))
+  done-again (look a) = λ h. h
+  done-again count = λ h. h
+  done-again lowest = λ h. h
 
 pub unused-may-change : (w : ℕ) → 1 ≤ w → (tag : List ℕ → Entry → List ℕ) → UnusedMayChange w tag
 unused-may-change w one tag key run c m n size same u before later x place d l a i = go (last-place run (lent c n) before x later place)
@@ -71,7 +70,7 @@ unused-may-change w one tag key run c m n size same u before later x place d l a
     s = stateAfter w tag key run
 
     moves-too : Moves w tag key run (lent c n) → Moves w tag key run (lent c m)
-    moves-too (d, k) = (done-number w tag s m c (sym (ap first (rows-by-length w s m n size c)) ∙ number-done w tag s n c d), k)
+    moves-too (d, k) = (done-again w tag s m n size c d, k)
 
     Left : List Lent → Lent → Type 0
     Left before x = Moves w tag key before x → (l : Latest (Moves w tag key) before) → used (stateAfter w tag key before .marks) a ≡ true → entryAt w (x .bytes) a ≡ entryAt w (result w tag key (l .before) (l .call) .seen .store) a

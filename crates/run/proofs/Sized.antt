@@ -1,143 +1,94 @@
--- Every entry that a run puts fits the cells, and where the lent stores are bytes every entry that it takes fits the message: by the rows of the calls. So
+-- Every entry that a run puts fits the cells, and where the lent stores are bytes every entry that it takes fits the message: each call shows it of its own. So
 -- two entries of a run with one message are one entry. Assumes nothing.
 use mathlib.Core.Path.{_≡_, refl, sym, subst}
-use mathlib.Core.Bool.{Bool, true, false}
 use mathlib.Core.List.{List, [], _∷_, _++_}
-use mathlib.Core.Logic.{_⊎_, inl, inr, _≢_}
-use Prim.Native.Nat.{ℕ, _+_, _*_, _≤_, _<_}
+use mathlib.Core.Logic.{_⊎_, inl, inr}
+use Prim.Native.Nat.{ℕ, zero, suc, _≤_}
+use native.Mathlib.Nat.{one-le-pow, pow-succ'}
 use native.Mathlib.Omega.{arith}
-use lib.Dec.{ltb}
-use lib.ListN.{length, getD, take, drop, length-take, length-drop, List·getD-eq-default}
-use lib.Seq.{length-take-le, getD-take, getD-drop}
-use borrow.Author.Tests.{ltb-true, ltb-false}
-use Rattle.refusal.specs.Refusal.{first}
-use Rattle.octets.proofs.Layouts.{fit-bytes, number-below, pow-bytes}
-use Rattle.state.specs.Sizes.{addresses, valueSize, cellSize, storeSize, ceiling}
-use Rattle.state.specs.Cells.{Entry, valueAt, stampAt, entryAt}
+use Rattle.state.specs.Sizes.{addresses, ceiling}
+use Rattle.state.specs.Cells.{Entry}
 use Rattle.state.specs.Multiset.{message, Fits}
-use Rattle.state.specs.Step.{Event, took, put, accepted, Step, next, takeEntry}
-use Rattle.state.specs.Moves.{added, loaded, stored, removed}
-use Rattle.state.specs.Check.{opening, agrees, takes, puts, takeAll, acceptance, rejection}
-use Rattle.state.specs.declared.State.{State}
-use Rattle.state.proofs.Cells.{cell-within, value-length}
+use Rattle.state.specs.Step.{Event, took, put, accepted}
 use Rattle.state.proofs.Messages.{message-injective}
-use Rattle.run.specs.Calls.{Call, add, load, store, remove, check, look, count, lowest, Lent, step, events}
+use Rattle.bag.specs.Bag.{Bag, empty, noted, follow}
+use Rattle.bag.specs.Law.{Along}
+use Rattle.bag.specs.Claims.{InCell, PutFits, Bytes, TakeFits}
+use Rattle.bag.proofs.Lists.{by-last, place-stays}
+use Rattle.bag.proofs.Along.{along-split}
+use Rattle.bag.proofs.Sizes.{below-bound}
+use Rattle.run.specs.Calls.{Lent, events}
 use Rattle.run.specs.Demand3.{stateAfter, result, eventsOf}
-use Rattle.run.proofs.Lists.{by-last, place-stays, Each, each-none, each-more, each-both}
-use Rattle.run.proofs.Walk.{by-cond, each-take, each-put}
-use Rattle.state.proofs.Ready.{Ready, add-ready, use-ready, remove-ready, check-ready}
-use Rattle.run.proofs.Steps.{rowsOf, whenDone, by-call}
-use Rattle.run.proofs.Runs.{events-last}
-use Rattle.run.proofs.Always.{ceiling-one, clock-bounded}
-use Rattle.run.proofs.Honest.{below-bound}
+use Rattle.run.proofs.Does.{Room, Did, still, does}
+use Rattle.run.proofs.Runs.{along-run}
+use Rattle.run.proofs.FromStart.{bagOf, events-none, events-last, did-then}
 
--- ---- the entries of one call
+pub ceiling-one : (w : ℕ) → 1 ≤ w → 1 ≤ ceiling w
+unfolding ceiling
+ceiling-one zero h = absurd (omega arith)
+ceiling-one (suc w) h = rw (pow-succ' 256 w) (omega (arith, one-le-pow w 256 (omega arith)))
 
--- what a put entry keeps to
-pub record InCell (w : ℕ) (e : Entry) : Type 0 where
-  pub address : e .address < addresses
-  pub value : length (e .value) ≡ valueSize
-  pub stamp : e .stamp ≤ ceiling w
+-- where each put fits, so does the clock
+clock-fits : (w : ℕ) → 1 ≤ ceiling w → (b : Bag) (es : List Event) → b .clock ≤ ceiling w → Along (PutFits w) b es → follow b es .clock ≤ ceiling w
+unfolding noted empty
+clock-fits w one b [] h f = h
+clock-fits w one b (took e ∷ es) h f = clock-fits w one (noted b (took e)) es h (f .1)
+clock-fits w one b (put e ∷ es) h f = clock-fits w one (noted b (put e)) es (f .0 .stamp) (f .1)
+clock-fits w one b (accepted ∷ es) h f = clock-fits w one (empty 1) es one (f .1)
 
--- a put entry fits, and T holds of an entry taken
-abbrev pub Right : ℕ → (Entry → Type 0) → Event → Type 0
-Right w T (took e) = T e
-Right w T (put e) = InCell w e
-Right w T accepted = Unit {0}
+-- every lent store is bytes
+abbrev pub AllBytes : List Lent → Type 0
+AllBytes run = (before later : List Lent) (x : Lent) → run ≡ before ++ (x ∷ later) → Bytes (x .bytes)
 
-module _ (w : ℕ) (one : 1 ≤ w) (tag : List ℕ → Entry → List ℕ) (T : Entry → Type 0) (s : State) (m : List ℕ) (bound : s .clock ≤ ceiling w)
-    (taken : (a : ℕ) → a < addresses → length m ≡ storeSize w → T (entryAt w m a)) where
-  abbrev R : Event → Type 0
-  R = Right w T
+module _ (w : ℕ) (tag : List ℕ → Entry → List ℕ) (key : List ℕ) where
+  next-along : (P : Bag → Event → Type 0) (run : List Lent) (x : Lent) → Along P (empty 0) (eventsOf w tag key run) → Along P (bagOf w tag key run) (result w tag key run x .events)
+      → Along P (empty 0) (eventsOf w tag key (run ++ (x ∷ [])))
+  next-along P = along-run (λ run x. result w tag key run x .events) (eventsOf w tag key) (events-none w tag key) (events-last w tag key) P
 
-  -- the entry that a call puts
-  next-fits : (a : ℕ) (v : List ℕ) → a < addresses → length v ≡ valueSize → s .clock ≢ ceiling w → InCell w (next s a v)
-  unfolding next
-  next-fits a v h k n = record { address = h; value = k; stamp = omega arith }
+  module _ (one : 1 ≤ w) where
+    room : (all : List Event) → Along (PutFits w) (empty 0) all → Room w (follow (empty 0) all)
+    unfolding empty
+    room all h = let c = ceiling-one w one in (c, clock-fits w c (empty 0) all (omega arith) h)
 
-  exchanged : (a : ℕ) (v : List ℕ) → Ready w s m a true → length v ≡ valueSize → s .clock ≢ ceiling w
-      → Each R (took (entryAt w m a) ∷ put (next (takeEntry tag s (entryAt w m a)) a v) ∷ [])
-  unfolding takeEntry next
-  exchanged a v p k n = each-more R _ _ (taken a (p .below) (p .size)) (each-more R _ _ (next-fits a v (p .below) k n) (each-none R))
+    puts-all : (run : List Lent) → Along (PutFits w) (empty 0) (eventsOf w tag key run)
+    unfolding events
+    puts-all = by-last (λ (run : List Lent). Along (PutFits w) (empty 0) (eventsOf w tag key run)) tt (λ run x ih. next-along (PutFits w) run x ih (go run x ih (did-then w tag key run x)))
+      where
+        go : (run : List Lent) (x : Lent) → Along (PutFits w) (empty 0) (eventsOf w tag key run) → Did w tag key (stateAfter w tag key run) (x .bytes) (bagOf w tag key run) (x .call) (result w tag key run x)
+            → Along (PutFits w) (bagOf w tag key run) (result w tag key run x .events)
+        go run x ih (still st so ev ve n) = subst (Along (PutFits w) (bagOf w tag key run)) (sym ev) tt
+        go run x ih (does o y d) = d .putFits (room (eventsOf w tag key run) ih)
 
-  opening-fits : length m ≡ storeSize w → (a : ℕ) → a < addresses → InCell w (opening w m a)
-  unfolding opening
-  opening-fits size a h = record { address = h; value = value-length w m a h size; stamp = ceiling-one w one }
+    pub run-room : (run : List Lent) → Room w (bagOf w tag key run)
+    run-room run = room (eventsOf w tag key run) (puts-all run)
 
-  step-right : (c : Call) → Each R (step w tag s m c .events)
-  unfolding added loaded stored removed acceptance rejection takes puts
-  step-right c = by-call w tag s m (λ (r : Step). Each R (r .events)) c (go c) (λ n e. each-none R)
-    where
-      go : (c : Call) → first (rowsOf w s m c) ≡ 0 → Each R (whenDone w tag s m c .events)
-      go (add a v) e =
-          let p = add-ready w s m a v e in
-          each-more R _ _ (next-fits a v (p .0 .below) (p .1 .size) (p .1 .time)) (each-none R)
-      go (load a o) e =
-          let p = use-ready w s m a o e in
-          exchanged a (valueAt w m a) (p .0) (value-length w m a (p .0 .below) (p .0 .size)) (p .1 .time)
-      go (store a v) e = let p = use-ready w s m a v e in exchanged a v (p .0) (p .1 .size) (p .1 .time)
-      go (remove a) e =
-          let p = remove-ready w s m a e in
-          each-more R _ _ (taken a (p .below) (p .size)) (each-none R)
-      go check e =
-          let size = check-ready w s m e .1 in
-          let ts = each-take w s m R (λ a h. taken a h size) in
-          by-cond (λ (r : Step). Each R (r .events)) (agrees (takeAll w tag s m))
-          (λ k. each-both R _ _ ts (each-more R accepted _ tt (each-put w s m R (opening-fits size))))
-          (λ k. ts)
-      go (look a) e = each-none R
-      go count e = each-none R
-      go lowest e = each-none R
+    -- each entry put, whatever is lent
+    pub put-fits : (run : List Lent) (p q : List Event) (e : Entry) → eventsOf w tag key run ≡ p ++ (put e ∷ q) → InCell w e
+    put-fits run p q e k = along-split (PutFits w) (empty 0) p (put e ∷ q) (subst (Along (PutFits w) (empty 0)) k (puts-all run)) .1 .0
 
--- ---- the entries of a run
-
--- a list of bytes
-abbrev pub Bytes : List ℕ → Type 0
-Bytes m = (i : ℕ) → getD m i 0 < 256
-
-part-bytes : (m : List ℕ) → Bytes m → (n w : ℕ) → Bytes (take w (drop n m))
-part-bytes m h n w i = go (ltb i w) refl
-  where
-    go : (b : Bool) → ltb i w ≡ b → getD (take w (drop n m)) i 0 < 256
-    go true e = rw (getD-take w (drop n m) i 0 (ltb-true i w e), getD-drop n m i 0) (h (n + i))
-    go false e = rw (List·getD-eq-default (take w (drop n m)) 0 {n = i} (omega (arith, length-take w (drop n m), ltb-false i w e))) (omega arith)
-
-taken-sized : (w : ℕ) (m : List ℕ) → Bytes m → (a : ℕ) → a < addresses → length m ≡ storeSize w → Fits w (entryAt w m a)
-unfolding entryAt stampAt addresses cellSize
-taken-sized w m h a k l =
-    let n : ℕ = (valueSize + w) * a + valueSize in
-    let size : length (take w (drop n m)) ≡ w = length-take-le w (drop n m) (omega (arith, length-drop n m, cell-within w a k)) in
-    record { address = omega arith; value = value-length w m a k l; stamp = rw (← pow-bytes w) (number-below w (fit-bytes w (take w (drop n m)) size (part-bytes m h n w))) }
-
-module _ (w : ℕ) (one : 1 ≤ w) (tag : List ℕ → Entry → List ℕ) (key : List ℕ) where
-  -- H is known of each lent store
-  run-right : (T : Entry → Type 0) (H : List ℕ → Type 0) → ((m : List ℕ) → H m → (a : ℕ) → a < addresses → length m ≡ storeSize w → T (entryAt w m a))
-      → (run : List Lent) → ((before later : List Lent) (x : Lent) → run ≡ before ++ (x ∷ later) → H (x .bytes)) → Each (Right w T) (eventsOf w tag key run)
+  -- each entry taken, where every lent store is bytes
+  takes-all : (run : List Lent) → AllBytes run → Along (TakeFits w) (empty 0) (eventsOf w tag key run)
   unfolding events
-  run-right T H f =
-      by-last (λ (run : List Lent). ((before later : List Lent) (x : Lent) → run ≡ before ++ (x ∷ later) → H (x .bytes)) → Each (Right w T) (eventsOf w tag key run))
-      (λ h. each-none (Right w T))
+  takes-all =
+      by-last (λ (run : List Lent). AllBytes run → Along (TakeFits w) (empty 0) (eventsOf w tag key run)) (λ h. tt)
       (λ run x ih h.
-      subst (Each (Right w T)) (sym (events-last w tag key run x))
-      (each-both (Right w T) (eventsOf w tag key run) (result w tag key run x .events) (ih (λ before later y e. h before (later ++ (x ∷ [])) y (place-stays run before y later (x ∷ []) e)))
-      (step-right w one tag T (stateAfter w tag key run) (x .bytes) (clock-bounded w tag key one run) (f (x .bytes) (h run [] x refl)) (x .call))))
+      next-along (TakeFits w) run x (ih (λ before later y e. h before (later ++ (x ∷ [])) y (place-stays run before y later (x ∷ []) e))) (go run x (h run [] x refl) (did-then w tag key run x)))
+    where
+      go : (run : List Lent) (x : Lent) → Bytes (x .bytes) → Did w tag key (stateAfter w tag key run) (x .bytes) (bagOf w tag key run) (x .call) (result w tag key run x)
+          → Along (TakeFits w) (bagOf w tag key run) (result w tag key run x .events)
+      go run x h (still st so ev ve n) = subst (Along (TakeFits w) (bagOf w tag key run)) (sym ev) tt
+      go run x h (does o y d) = d .takeFits h
 
-  -- each entry put, whatever is lent
-  pub put-fits : (run : List Lent) (p q : List Event) (e : Entry) → eventsOf w tag key run ≡ p ++ (put e ∷ q) → InCell w e
-  put-fits run p q e = run-right (λ d. Unit {0}) (λ m. Unit {0}) (λ m h a k l. tt) run (λ before later x k. tt) p q (put e)
+  module _ (one : 1 ≤ w) (run : List Lent) (h : AllBytes run) where
+    pub entries-sized : (p q : List Event) (e : Entry) → (eventsOf w tag key run ≡ p ++ (put e ∷ q)) ⊎ (eventsOf w tag key run ≡ p ++ (took e ∷ q)) → Fits w e
+    unfolding addresses
+    entries-sized p q e (inl k) =
+        let f = put-fits one run p q e k in
+        record { address = omega (arith, f .address); value = f .value; stamp = below-bound w (e .stamp) (f .stamp) }
+    entries-sized p q e (inr k) = along-split (TakeFits w) (empty 0) p (took e ∷ q) (subst (Along (TakeFits w) (empty 0)) k (takes-all run h)) .1 .0
 
-  -- and each entry put or taken, where every lent store is bytes
-  pub entries-sized : (run : List Lent) → ((before later : List Lent) (x : Lent) → run ≡ before ++ (x ∷ later) → Bytes (x .bytes))
-      → (p q : List Event) (e : Entry) → (eventsOf w tag key run ≡ p ++ (put e ∷ q)) ⊎ (eventsOf w tag key run ≡ p ++ (took e ∷ q)) → Fits w e
-  unfolding addresses
-  entries-sized run h p q e (inl k) =
-      let f = put-fits run p q e k in
-      record { address = omega (arith, f .address); value = f .value; stamp = below-bound w (e .stamp) (f .stamp) }
-  entries-sized run h p q e (inr k) = run-right (Fits w) Bytes (taken-sized w) run h p q (took e) k
-
-  -- so two entries of a run with one message are one entry
-  pub message-tells : (run : List Lent) → ((before later : List Lent) (x : Lent) → run ≡ before ++ (x ∷ later) → Bytes (x .bytes))
-      → (p q p′ q′ : List Event) (d e : Entry)
-      → (eventsOf w tag key run ≡ p ++ (put d ∷ q)) ⊎ (eventsOf w tag key run ≡ p ++ (took d ∷ q))
-      → (eventsOf w tag key run ≡ p′ ++ (put e ∷ q′)) ⊎ (eventsOf w tag key run ≡ p′ ++ (took e ∷ q′)) → message w d ≡ message w e → d ≡ e
-  message-tells run h p q p′ q′ d e k g = message-injective w d e (entries-sized run h p q d k) (entries-sized run h p′ q′ e g)
+    -- so two entries of a run with one message are one entry
+    pub message-tells : (p q p′ q′ : List Event) (d e : Entry)
+        → (eventsOf w tag key run ≡ p ++ (put d ∷ q)) ⊎ (eventsOf w tag key run ≡ p ++ (took d ∷ q))
+        → (eventsOf w tag key run ≡ p′ ++ (put e ∷ q′)) ⊎ (eventsOf w tag key run ≡ p′ ++ (took e ∷ q′)) → message w d ≡ message w e → d ≡ e
+    message-tells p q p′ q′ d e k g = message-injective w d e (entries-sized p q d k) (entries-sized p′ q′ e g)

@@ -1,91 +1,59 @@
--- Each call of a run by its rows: what it gives where none of them holds, and where one does. Assumes nothing.
-use mathlib.Core.Path.{_≡_, refl, sym, ap, _∙_, subst}
-use mathlib.Core.Bool.{cond}
+-- Each call of a run by its rows: where one of them holds it changes nothing, where none does it is done, and then it shows what a call has to. The one place
+-- that goes through the calls. Assumes nothing.
+use mathlib.Core.Path.{_≡_, refl}
+use mathlib.Core.Bool.{true, false, cond, false≢true}
 use mathlib.Core.List.{List, []}
 use Prim.Native.Nat.{ℕ, zero, suc}
 use native.Mathlib.Omega.{arith}
 use Rattle.refusal.specs.Refusal.{Row, first, done}
-use Rattle.state.specs.Sizes.{addresses}
 use Rattle.state.specs.Cells.{Entry}
 use Rattle.state.specs.Step.{seen, Step}
 use Rattle.state.specs.Moves.{addRows, useRows, removeRows, call, added, addOf, loaded, loadOf, stored, storeOf, removed, removeOf}
 use Rattle.state.specs.Check.{checkRows, agrees, takeAll, acceptance, rejection, checkOf}
 use Rattle.state.specs.declared.State.{State}
 use Rattle.state.specs.declared.Verdict.the-variants.{Nothing}
-use Rattle.run.specs.Calls.{Call, add, load, store, remove, check, look, count, lowest, idle, step}
-use Rattle.run.proofs.Walk.{by-cond}
+use Rattle.state.proofs.Ready.{add-ready, use-ready, remove-ready, check-ready}
+use Rattle.bag.specs.Bag.{Bag}
+use Rattle.bag.specs.Claims.{Follows}
+use Rattle.run.specs.Calls.{Call, add, load, store, remove, check, look, count, lowest, moves, step}
+use Rattle.run.proofs.Does.{Fit, Does, Did, still, does}
+use Rattle.run.proofs.Moves.{add-does, load-does, store-does, remove-does}
+use Rattle.run.proofs.Checks.{check-does}
 
--- the rows of a call, the out buffer that it is lent, and what it gives where no row holds
-abbrev pub rowsOf : ℕ → State → List ℕ → Call → List Row
-rowsOf w s m (add a v) = addRows w s m a v
-rowsOf w s m (load a o) = useRows w s m a o
-rowsOf w s m (store a v) = useRows w s m a v
-rowsOf w s m (remove a) = removeRows w s m a
-rowsOf w s m check = checkRows w s m
-rowsOf w s m (look a) = []
-rowsOf w s m count = []
-rowsOf w s m lowest = []
-
-abbrev pub outOf : Call → List ℕ
-outOf (add a v) = []
-outOf (load a o) = o
-outOf (store a v) = []
-outOf (remove a) = []
-outOf check = []
-outOf (look a) = []
-outOf count = []
-outOf lowest = []
-
-abbrev pub refusedStep : ℕ → State → List ℕ → Call → Step
-refusedStep n s m c = record { seen = seen n Nothing s m (outOf c); events = [] }
-
-module _ (w : ℕ) (tag : List ℕ → Entry → List ℕ) (s : State) (m : List ℕ) where
-  abbrev pub whenDone : Call → Step
-  whenDone (add a v) = added w tag s m a v
-  whenDone (load a o) = loaded w tag s m a
-  whenDone (store a v) = stored w tag s m a v
-  whenDone (remove a) = removed w tag s m a
-  whenDone check = cond (agrees (takeAll w tag s m)) (acceptance w tag s m) (rejection w tag s m)
-  whenDone (look a) = idle s m
-  whenDone count = idle s m
-  whenDone lowest = idle s m
-
-  by-rows : (c : Call) → step w tag s m c ≡ done (first (rowsOf w s m c)) (whenDone c) (refusedStep (first (rowsOf w s m c)) s m c)
-  unfolding step addOf loadOf storeOf removeOf checkOf call
-  by-rows (add a v) = refl
-  by-rows (load a o) = refl
-  by-rows (store a v) = refl
-  by-rows (remove a) = refl
-  by-rows check = refl
-  by-rows (look a) = refl
-  by-rows count = refl
-  by-rows lowest = refl
-
-  -- what holds of each call that is done, and of each that is refused, holds of each call
-  pub by-call : (P : Step → Type 0) (c : Call) → (first (rowsOf w s m c) ≡ 0 → P (whenDone c)) → ((n : ℕ) → first (rowsOf w s m c) ≡ suc n → P (refusedStep (suc n) s m c))
-      → P (step w tag s m c)
-  by-call P c f g = subst P (sym (by-rows c)) (go (first (rowsOf w s m c)) f g)
+-- what holds of a call that is done, and of one that is refused, holds of it
+module _ (s : State) (m : List ℕ) where
+  pub by-rows : (P : Step → Type 0) (rows : List Row) (o : List ℕ) (x : Step) → (first rows ≡ 0 → P x) → ((n : ℕ) → P (record { seen = seen (suc n) Nothing s m o; events = [] }))
+      → P (call rows s m o x)
+  unfolding call
+  by-rows P rows o x f g = go (first rows) f
     where
-      go : (n : ℕ) → (n ≡ 0 → P (whenDone c)) → ((k : ℕ) → n ≡ suc k → P (refusedStep (suc k) s m c)) → P (done n (whenDone c) (refusedStep n s m c))
-      go zero f g = f refl
-      go (suc n) f g = g n refl
+      go : (n : ℕ) → (n ≡ 0 → P x) → P (done n x (record { seen = seen n Nothing s m o; events = [] }))
+      go zero f = f refl
+      go (suc n) f = g n
 
-  pub step-done : (c : Call) → first (rowsOf w s m c) ≡ 0 → step w tag s m c ≡ whenDone c
-  step-done c e = by-rows c ∙ rw e
+  -- where a call gives 0 no row holds
+  pub done-rows : (rows : List Row) (o : List ℕ) (x : Step) → call rows s m o x .seen .number ≡ 0 → first rows ≡ 0
+  done-rows rows o x = by-rows (λ (r : Step). r .seen .number ≡ 0 → first rows ≡ 0) rows o x (λ e z. e) (λ n z. absurd (omega arith))
 
-  pub done-number : (c : Call) → first (rowsOf w s m c) ≡ 0 → step w tag s m c .seen .number ≡ 0
-  unfolding added loaded stored removed acceptance rejection
-  done-number c e = ap (λ (r : Step). r .seen .number) (step-done c e) ∙ go c
-    where
-      go : (c : Call) → whenDone c .seen .number ≡ 0
-      go (add a v) = refl
-      go (load a o) = refl
-      go (store a v) = refl
-      go (remove a) = refl
-      go check = by-cond (λ (r : Step). r .seen .number ≡ 0) (agrees (takeAll w tag s m)) (λ k. refl) (λ k. refl)
-      go (look a) = refl
-      go count = refl
-      go lowest = refl
+module _ (w : ℕ) (tag : List ℕ → Entry → List ℕ) (key : List ℕ) (s : State) (m : List ℕ) (b : Bag) (known : s .closed ≡ false → Follows tag key s b × Fit s b) where
+  -- a call that takes or puts: refused, or done from a state that is not closed
+  moving : (c : Call) → moves c ≡ true → (rows : List Row) (o : List ℕ) (x : Step) → (first rows ≡ 0 → s .closed ≡ false)
+      → (first rows ≡ 0 → Follows tag key s b → Fit s b → Does w tag key s m b c x) → Did w tag key s m b c (call rows s m o x)
+  moving c y rows o x ready h =
+      by-rows s m (Did w tag key s m b c) rows o x (λ e. let k = known (ready e) in does (ready e) y (h e (k .0) (k .1))) (λ n. still refl refl refl refl (λ z. absurd (omega arith)))
 
-  pub number-done : (c : Call) → step w tag s m c .seen .number ≡ 0 → first (rowsOf w s m c) ≡ 0
-  number-done c = by-call (λ (r : Step). r .seen .number ≡ 0 → first (rowsOf w s m c) ≡ 0) c (λ e z. e) (λ n e z. absurd (omega arith))
+  pub did : (c : Call) → Did w tag key s m b c (step w tag s m c)
+  unfolding step addOf loadOf storeOf removeOf checkOf
+  did (add a v) =
+      moving (add a v) refl (addRows w s m a v) [] (added w tag s m a v) (λ e. add-ready w s m a v e .0 .notClosed) (λ e f t. add-does w tag key s m b f t a v e)
+  did (load a o) =
+      moving (load a o) refl (useRows w s m a o) o (loaded w tag s m a) (λ e. use-ready w s m a o e .0 .notClosed) (λ e f t. load-does w tag key s m b f t a o e)
+  did (store a v) =
+      moving (store a v) refl (useRows w s m a v) [] (stored w tag s m a v) (λ e. use-ready w s m a v e .0 .notClosed) (λ e f t. store-does w tag key s m b f t a v e)
+  did (remove a) =
+      moving (remove a) refl (removeRows w s m a) [] (removed w tag s m a) (λ e. remove-ready w s m a e .notClosed) (λ e f t. remove-does w tag key s m b f t a e)
+  did check =
+      moving check refl (checkRows w s m) [] (cond (agrees (takeAll w tag s m)) (acceptance w tag s m) (rejection w tag s m)) (λ e. check-ready w s m e .0) (λ e f t. check-does w tag key s m b f t e)
+  did (look a) = still refl refl refl refl (λ z y. absurd (false≢true y))
+  did count = still refl refl refl refl (λ z y. absurd (false≢true y))
+  did lowest = still refl refl refl refl (λ z y. absurd (false≢true y))

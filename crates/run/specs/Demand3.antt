@@ -65,13 +65,13 @@ pub record Since (all period : List Event) : Type 0 where
 -- ---- calls
 
 -- the latest call of a run of which P holds; P before x is said of a call x that stands after the calls `before`
-pub record Latest (P : List Lent → Lent → Type 0) (run : List Lent) : Type 0 where
-  pub before : List Lent
-  pub call : Lent
-  pub later : List Lent
+pub record Latest {A : Type 0} (P : List A → A → Type 0) (run : List A) : Type 0 where
+  pub before : List A
+  pub call : A
+  pub later : List A
   pub place : run ≡ before ++ (call ∷ later)
   pub holds : P before call
-  pub last : (p q : List Lent) (x : Lent) → later ≡ p ++ (x ∷ q) → P (before ++ (call ∷ p)) x → ⊥
+  pub last : (p q : List A) (x : A) → later ≡ p ++ (x ∷ q) → P (before ++ (call ∷ p)) x → ⊥
 
 -- the call adds or stores v at a
 abbrev pub Sets : Call → ℕ → List ℕ → Type 0

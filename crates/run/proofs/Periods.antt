@@ -1,80 +1,48 @@
--- What the events of a run leave written down: the entries put and taken since the last accepted check, and at each address the entry put there and
--- not taken since. Of a period it is just the period's entries, by induction on the events. Assumes nothing.
+-- There is one period, and the bag of all that was done has just what was put and taken in it: what is written down begins anew at each accepted check.
+-- Assumes nothing.
 use mathlib.Core.Path.{_≡_, refl, sym, ap, _∙_}
-use mathlib.Core.Bool.{Bool, true, false, cond, true≢false}
-use mathlib.Core.List.{List, [], _∷_, _++_, append-nil, append-assoc, tail-eq-of-cons-eq, foldl, foldl-append}
-use mathlib.Core.Option.{Option, none, some}
+use mathlib.Core.Bool.{Bool, true, false, true≢false}
+use mathlib.Core.List.{List, [], _∷_, _++_, append-nil, append-assoc, tail-eq-of-cons-eq, foldl-append}
 use mathlib.Core.Logic.{_⊎_, inl, inr, ⊎-elim}
 use Prim.Native.Nat.{ℕ}
-use lib.Dec.{eqb}
-use Rattle.state.specs.Cells.{Entry}
 use Rattle.state.specs.Step.{Event, took, put, accepted}
+use Rattle.bag.specs.Bag.{Bag, empty, noted, follow}
+use Rattle.bag.proofs.Lists.{by-last, place-in, last-place, no-place}
+use Rattle.bag.proofs.Unbroken.{Unbroken, rest-unbroken}
 use Rattle.run.specs.Demand3.{putIn, takenIn, Since}
-use Rattle.run.proofs.Lists.{by-last, place-in, last-place, no-place}
 
-pub record Log : Type 0 where
-  pub puts : List Entry
-  pub takes : List Entry
-  pub held : ℕ → Option Entry
+-- ---- what is written down
 
-unfoldable pub upd : (ℕ → Option Entry) → ℕ → Option Entry → (ℕ → Option Entry)
-upd f a x b = cond (eqb b a) x (f b)
+unbroken-puts : (b : Bag) (es : List Event) → Unbroken es → follow b es .puts ≡ b .puts ++ putIn es
+unfolding noted putIn
+unbroken-puts b [] u = sym (append-nil (b .puts))
+unbroken-puts b (took e ∷ es) u = unbroken-puts (noted b (took e)) es (rest-unbroken (took e) es u)
+unbroken-puts b (put e ∷ es) u = unbroken-puts (noted b (put e)) es (rest-unbroken (put e) es u) ∙ append-assoc (b .puts) (e ∷ []) (putIn es)
+unbroken-puts b (accepted ∷ es) u = absurd (u [] es refl)
 
-unfoldable pub putL : Log → Entry → Log
-putL l e = record { puts = l .puts ++ (e ∷ []); takes = l .takes; held = upd (l .held) (e .address) (some e) }
-
-unfoldable pub takeL : Log → Entry → Log
-takeL l e = record { puts = l .puts; takes = l .takes ++ (e ∷ []); held = upd (l .held) (e .address) none }
-
-unfoldable pub noLog : Log
-noLog = record { puts = []; takes = []; held = λ a. none }
-
-unfoldable pub noted : Log → Event → Log
-noted l (took e) = takeL l e
-noted l (put e) = putL l e
-noted l accepted = noLog
-
-abbrev pub follow : Log → List Event → Log
-follow = foldl noted
-
--- ---- a period
-
-abbrev pub Unbroken : List Event → Type 0
-Unbroken es = (p q : List Event) → es ≡ p ++ (accepted ∷ q) → ⊥
-
-rest-unbroken : (e : Event) (es : List Event) → Unbroken (e ∷ es) → Unbroken es
-rest-unbroken e es u p q k = u (e ∷ p) q (ap (λ (l : List Event). e ∷ l) k)
-
-unbroken-puts : (l : Log) (es : List Event) → Unbroken es → follow l es .puts ≡ l .puts ++ putIn es
-unfolding noted putL takeL putIn
-unbroken-puts l [] u = sym (append-nil (l .puts))
-unbroken-puts l (took e ∷ es) u = unbroken-puts (takeL l e) es (rest-unbroken (took e) es u)
-unbroken-puts l (put e ∷ es) u = unbroken-puts (putL l e) es (rest-unbroken (put e) es u) ∙ append-assoc (l .puts) (e ∷ []) (putIn es)
-unbroken-puts l (accepted ∷ es) u = absurd (u [] es refl)
-
-unbroken-takes : (l : Log) (es : List Event) → Unbroken es → follow l es .takes ≡ l .takes ++ takenIn es
-unfolding noted putL takeL takenIn
-unbroken-takes l [] u = sym (append-nil (l .takes))
-unbroken-takes l (took e ∷ es) u = unbroken-takes (takeL l e) es (rest-unbroken (took e) es u) ∙ append-assoc (l .takes) (e ∷ []) (takenIn es)
-unbroken-takes l (put e ∷ es) u = unbroken-takes (putL l e) es (rest-unbroken (put e) es u)
-unbroken-takes l (accepted ∷ es) u = absurd (u [] es refl)
+unbroken-takes : (b : Bag) (es : List Event) → Unbroken es → follow b es .takes ≡ b .takes ++ takenIn es
+unfolding noted takenIn
+unbroken-takes b [] u = sym (append-nil (b .takes))
+unbroken-takes b (took e ∷ es) u = unbroken-takes (noted b (took e)) es (rest-unbroken (took e) es u) ∙ append-assoc (b .takes) (e ∷ []) (takenIn es)
+unbroken-takes b (put e ∷ es) u = unbroken-takes (noted b (put e)) es (rest-unbroken (put e) es u)
+unbroken-takes b (accepted ∷ es) u = absurd (u [] es refl)
 
 module _ (all period : List Event) (s : Since all period) where
-  -- nothing is written down where the period begins
-  begun : follow noLog (s .past) ≡ noLog
+  -- a period begins with an empty bag
+  pub begun : (c : ℕ) × (follow (empty 0) (s .past) ≡ empty c)
   unfolding noted
-  begun = ⊎-elim (λ e. ap (follow noLog) e) (λ p. ap (follow noLog) (p .1) ∙ rw foldl-append) (s .begins)
+  begun = ⊎-elim (λ e. (0, ap (follow (empty 0)) e)) (λ p. (1, ap (follow (empty 0)) (p .1) ∙ foldl-append noted (empty 0) (p .0) (accepted ∷ []))) (s .begins)
 
-  from : follow noLog all ≡ follow noLog period
-  from = ap (follow noLog) (s .place) ∙ foldl-append noted noLog (s .past) period ∙ ap (λ (l : Log). follow l period) begun
+  from : follow (empty 0) all ≡ follow (empty (begun .0)) period
+  from = ap (follow (empty 0)) (s .place) ∙ foldl-append noted (empty 0) (s .past) period ∙ ap (λ (b : Bag). follow b period) (begun .1)
 
-  pub since-puts : follow noLog all .puts ≡ putIn period
-  unfolding noLog
-  since-puts = ap (λ (l : Log). l .puts) from ∙ unbroken-puts noLog period (s .unbroken)
+  pub since-puts : follow (empty 0) all .puts ≡ putIn period
+  unfolding empty
+  since-puts = ap (λ (b : Bag). b .puts) from ∙ unbroken-puts (empty (begun .0)) period (s .unbroken)
 
-  pub since-takes : follow noLog all .takes ≡ takenIn period
-  unfolding noLog
-  since-takes = ap (λ (l : Log). l .takes) from ∙ unbroken-takes noLog period (s .unbroken)
+  pub since-takes : follow (empty 0) all .takes ≡ takenIn period
+  unfolding empty
+  since-takes = ap (λ (b : Bag). b .takes) from ∙ unbroken-takes (empty (begun .0)) period (s .unbroken)
 
 -- every list of events has such a period
 abbrev pub isAccepted : Event → Bool

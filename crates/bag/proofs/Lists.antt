@@ -49,23 +49,3 @@ module _ {A : Type 0} where
   -- a place stays where more is added at the end
   pub place-stays : (xs c : List A) (y : A) (d z : List A) → xs ≡ c ++ (y ∷ d) → xs ++ z ≡ c ++ (y ∷ (d ++ z))
   place-stays xs c y d z q = ap (λ (l : List A). l ++ z) q ∙ append-assoc c (y ∷ d) z
-
-  -- ---- each element of a list, at its place
-
-  abbrev pub Each : (A → Type 0) → List A → Type 0
-  Each P xs = (p q : List A) (x : A) → xs ≡ p ++ (x ∷ q) → P x
-
-  module _ (P : A → Type 0) where
-    pub each-none : Each P []
-    each-none p q x h = absurd (no-place p x q h)
-
-    pub each-more : (y : A) (xs : List A) → P y → Each P xs → Each P (y ∷ xs)
-    each-more y xs h f [] q x k = subst P (head-eq-of-cons-eq k) h
-    each-more y xs h f (z ∷ p) q x k = f p q x (tail-eq-of-cons-eq k)
-
-    pub each-both : (xs ys : List A) → Each P xs → Each P ys → Each P (xs ++ ys)
-    each-both xs ys f g p q x k = go (place-in xs ys p x q k)
-      where
-        go : ((d : List A) × (xs ≡ p ++ (x ∷ d)) × (q ≡ d ++ ys)) ⊎ ((d : List A) × (p ≡ xs ++ d) × (ys ≡ d ++ (x ∷ q))) → P x
-        go (inl (d, h, z)) = f p d x h
-        go (inr (d, h, z)) = g d q x z

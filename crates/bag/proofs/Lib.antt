@@ -1,0 +1,13 @@
+pub mod Lists
+pub mod Cases
+pub mod Unbroken
+pub mod Along
+pub mod Orderly
+pub mod Sound
+pub mod Complete
+pub mod Faults
+pub mod Follows
+pub mod Sizes
+pub mod Stores
+pub mod Addresses
+pub mod Walks

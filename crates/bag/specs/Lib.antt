@@ -1,0 +1,3 @@
+pub mod Bag
+pub mod Law
+pub mod Claims

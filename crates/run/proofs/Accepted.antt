@@ -1,0 +1,89 @@
+-- The accepted events of a run are its checks that accept, with their takes before them: each call shows it of its own. Assumes nothing.
+use mathlib.Core.Path.{_≡_, refl, sym, ap, _∙_}
+use mathlib.Core.List.{List, [], _∷_, _++_, append-assoc}
+use mathlib.Core.Logic.{_⊎_, inl, inr}
+use Prim.Native.Nat.{ℕ}
+use native.Mathlib.Omega.{arith}
+use Rattle.state.specs.Cells.{Entry}
+use Rattle.state.specs.Start.{startOf}
+use Rattle.state.specs.Step.{Event, accepted, Step}
+use Rattle.state.specs.Check.{checkRows, agrees, takes, puts, takeAll, acceptance, rejection, checkOf}
+use Rattle.state.specs.declared.State.{State}
+use Rattle.state.specs.declared.Verdict.the-variants.{Accept}
+use Rattle.bag.proofs.Lists.{by-last, place-in, no-place, place-stays}
+use Rattle.bag.proofs.Cases.{by-cond}
+use Rattle.run.specs.Calls.{Call, check, Lent, lent, step, events}
+use Rattle.run.specs.Demand3.{stateAfter, result, eventsOf, Accepts}
+use Rattle.run.proofs.Does.{Did, still, does}
+use Rattle.run.proofs.Steps.{by-rows}
+use Rattle.run.proofs.FromStart.{events-append, bagOf, events-last, did-then}
+
+-- what a check that accepts gives
+pub accepts-gives : (w : ℕ) (tag : List ℕ → Entry → List ℕ) (s : State) (m : List ℕ) → step w tag s m check .seen .verdict ≡ Accept → step w tag s m check ≡ acceptance w tag s m
+unfolding step checkOf acceptance rejection
+accepts-gives w tag s m =
+    by-rows s m (λ (r : Step). r .seen .verdict ≡ Accept → r ≡ acceptance w tag s m) (checkRows w s m) [] _
+    (λ e. by-cond (λ (r : Step). r .seen .verdict ≡ Accept → r ≡ acceptance w tag s m) (agrees (takeAll w tag s m)) (λ k v. refl) (λ k v. let z : _≡_ {A = ℕ} 0 1 = cc in absurd (omega arith)))
+    (λ n v. let z : _≡_ {A = ℕ} 0 1 = cc in absurd (omega arith))
+
+module _ (w : ℕ) (tag : List ℕ → Entry → List ℕ) (key : List ℕ) where
+  -- a check of the run that accepts, what was done up to its verdict being `past`
+  pub record AcceptedCheck (run : List Lent) (past : List Event) : Type 0 where
+    pub before : List Lent
+    pub later : List Lent
+    pub bytes : List ℕ
+    pub place : run ≡ before ++ (lent check bytes ∷ later)
+    pub accepts : Accepts w tag key before bytes
+    pub upTo : past ≡ eventsOf w tag key before ++ takes w (stateAfter w tag key before) bytes
+
+  pub accepted-check : (run : List Lent) (past rest : List Event) → eventsOf w tag key run ≡ past ++ (accepted ∷ rest) → AcceptedCheck run past
+  unfolding events
+  accepted-check = by-last (λ (run : List Lent). (past rest : List Event) → eventsOf w tag key run ≡ past ++ (accepted ∷ rest) → AcceptedCheck run past) (λ past rest e. absurd (no-place past accepted rest e)) more
+    where
+      stays : (run : List Lent) (x : Lent) (past : List Event) → AcceptedCheck run past → AcceptedCheck (run ++ (x ∷ [])) past
+      stays run x past c =
+          record { before = c .before; later = c .later ++ (x ∷ []); bytes = c .bytes; place = place-stays run (c .before) (lent check (c .bytes)) (c .later) (x ∷ []) (c .place); accepts = c .accepts; upTo = c .upTo }
+
+      here : (run : List Lent) (x : Lent) (past d rest : List Event) → past ≡ eventsOf w tag key run ++ d → result w tag key run x .events ≡ d ++ (accepted ∷ rest)
+          → Did w tag key (stateAfter w tag key run) (x .bytes) (bagOf w tag key run) (x .call) (result w tag key run x) → AcceptedCheck (run ++ (x ∷ [])) past
+      here run x past d rest f g (still st so ev ve n) = absurd (no-place d accepted rest (sym ev ∙ g))
+      here run x past d rest f g (does o y k) =
+          let h = k .accepts d rest g in
+          record {
+            before = run;
+            later = [];
+            bytes = x .bytes;
+            place = ap (λ (c : Call). run ++ (lent c (x .bytes) ∷ [])) (h .0);
+            accepts = ap (λ (c : Call). result w tag key run (lent c (x .bytes)) .seen .verdict) (sym (h .0)) ∙ h .1;
+            upTo = f ∙ ap (λ (es : List Event). eventsOf w tag key run ++ es) (h .2);
+          }
+
+      more : (run : List Lent) (x : Lent) → ((past rest : List Event) → eventsOf w tag key run ≡ past ++ (accepted ∷ rest) → AcceptedCheck run past)
+          → (past rest : List Event) → eventsOf w tag key (run ++ (x ∷ [])) ≡ past ++ (accepted ∷ rest) → AcceptedCheck (run ++ (x ∷ [])) past
+      more run x ih past rest e = go (place-in (eventsOf w tag key run) (result w tag key run x .events) past accepted rest (sym (events-last w tag key run x) ∙ e))
+        where
+          go : ((d : List Event) × (eventsOf w tag key run ≡ past ++ (accepted ∷ d)) × (rest ≡ d ++ result w tag key run x .events))
+              ⊎ ((d : List Event) × (past ≡ eventsOf w tag key run ++ d) × (result w tag key run x .events ≡ d ++ (accepted ∷ rest))) → AcceptedCheck (run ++ (x ∷ [])) past
+          go (inl (d, f, g)) = stays run x past (ih past d f)
+          go (inr (d, f, g)) = here run x past d rest f g (did-then w tag key run x)
+
+  pub check-accepted : (run : List Lent) (past : List Event) → AcceptedCheck run past → (rest : List Event) × (eventsOf w tag key run ≡ past ++ (accepted ∷ rest))
+  unfolding events acceptance
+  check-accepted run past c = (
+    puts w s m ++ rest,
+    ap (eventsOf w tag key) (c .place) ∙ events-append w tag (startOf key .state) (c .before) (lent check m ∷ c .later)
+        ∙ ap (λ (es : List Event). eventsOf w tag key (c .before) ++ (es ++ rest)) (ap (λ (r : Step). r .events) (accepts-gives w tag s m (c .accepts)))
+        ∙ regroup (eventsOf w tag key (c .before)) (takes w s m) (puts w s m) rest ∙ ap (λ (es : List Event). es ++ (accepted ∷ (puts w s m ++ rest))) (sym (c .upTo)),
+  )
+    where
+      s : State
+      s = stateAfter w tag key (c .before)
+
+      m : List ℕ
+      m = c .bytes
+
+      rest : List Event
+      rest = events w tag (result w tag key (c .before) (lent check m) .seen .state) (c .later)
+
+      regroup : (a t p r : List Event) → a ++ ((t ++ (accepted ∷ p)) ++ r) ≡ (a ++ t) ++ (accepted ∷ (p ++ r))
+      regroup a t p r = simp append-assoc

@@ -1,0 +1,107 @@
+-- A run from a start, call by call: its events keep the law, and as long as its state is not closed the state follows them and the marks are where entries are
+-- held. So each of its calls shows what a call has to. Assumes nothing.
+use mathlib.Core.Path.{_≡_, refl, sym, ap, _∙_, subst}
+use mathlib.Core.Bool.{Bool, true, false, true≢false}
+use mathlib.Core.List.{List, [], _∷_, _++_, append-nil, append-assoc, foldl-append}
+use Prim.Native.Nat.{ℕ}
+use lib.Dec.{eqb}
+use lib.ListN.{length}
+use borrow.Author.Tests.{eqb-true, eqb-false}
+use Rattle.state.specs.Cells.{Entry}
+use Rattle.state.specs.Start.{fresh, none, startOf}
+use Rattle.state.specs.Step.{Event, Step}
+use Rattle.state.specs.declared.State.{State}
+use Rattle.state.specs.declared.Started.{Started}
+use Rattle.state.proofs.Starts.{start-done, start-refused}
+use Rattle.state.proofs.Marks.{fresh-unused}
+use Rattle.state.proofs.Multiset.{hash-none}
+use Rattle.bag.specs.Bag.{Bag, empty, noted, follow}
+use Rattle.bag.specs.Law.{May, Lawful}
+use Rattle.bag.specs.Claims.{Follows}
+use Rattle.bag.proofs.Lists.{by-last}
+use Rattle.bag.proofs.Along.{along-append}
+use Rattle.run.specs.Calls.{Call, Lent, step, after, events}
+use Rattle.run.specs.Demand3.{stateAfter, result, eventsOf}
+use Rattle.run.proofs.Does.{Fit, Did, still, does}
+use Rattle.run.proofs.Steps.{did}
+
+-- a start by its one row
+pub by-start : (key : List ℕ) (P : State → Type 0) → (length key ≡ 32 → P (fresh key false)) → ((length key ≡ 32 → ⊥) → P none) → P (startOf key .state)
+by-start key P f g = go (eqb (length key) 32) refl
+  where
+    go : (b : Bool) → eqb (length key) 32 ≡ b → P (startOf key .state)
+    go true e = let h = eqb-true (length key) 32 e in subst (λ (r : Started). P (r .state)) (sym (start-done key h)) (f h)
+    go false e = let h = eqb-false (length key) 32 e in subst (λ (r : Started). P (r .state)) (sym (start-refused key h)) (g h)
+
+module _ (w : ℕ) (tag : List ℕ → Entry → List ℕ) where
+  after-append : (s : State) (p q : List Lent) → after w tag s (p ++ q) ≡ after w tag (after w tag s p) q
+  unfolding after
+  after-append s [] q = refl
+  after-append s (x ∷ p) q = after-append (step w tag s (x .bytes) (x .call) .seen .state) p q
+
+  pub events-append : (s : State) (p q : List Lent) → events w tag s (p ++ q) ≡ events w tag s p ++ events w tag (after w tag s p) q
+  unfolding after events
+  events-append s [] q = refl
+  events-append s (x ∷ p) q =
+      let r = step w tag s (x .bytes) (x .call) in
+      ap (λ (es : List Event). r .events ++ es) (events-append (r .seen .state) p q)
+      ∙ sym (append-assoc (r .events) (events w tag (r .seen .state) p) (events w tag (after w tag (r .seen .state) p) q))
+
+  module _ (key : List ℕ) where
+    -- all that was done, written down
+    abbrev pub bagOf : List Lent → Bag
+    bagOf run = follow (empty 0) (eventsOf w tag key run)
+
+    pub events-none : eventsOf w tag key [] ≡ []
+    unfolding events
+    events-none = refl
+
+    module _ (run : List Lent) (x : Lent) where
+      pub state-last : stateAfter w tag key (run ++ (x ∷ [])) ≡ result w tag key run x .seen .state
+      unfolding after
+      state-last = after-append (startOf key .state) run (x ∷ [])
+
+      pub events-last : eventsOf w tag key (run ++ (x ∷ [])) ≡ eventsOf w tag key run ++ result w tag key run x .events
+      unfolding events
+      events-last =
+          events-append (startOf key .state) run (x ∷ []) ∙ ap (λ (es : List Event). eventsOf w tag key run ++ es) (append-nil (result w tag key run x .events))
+
+  module _ (key : List ℕ) where
+    -- what is known of a run's state s and of all that was done
+    pub record Going (s : State) (all : List Event) : Type 0 where
+      pub lawful : Lawful (tag key) (empty 0) all
+      pub known : s .closed ≡ false → Follows tag key s (follow (empty 0) all) × Fit s (follow (empty 0) all)
+
+    begins : Going (startOf key .state) []
+    unfolding none fresh empty
+    begins =
+        by-start key (λ (s : State). Going s [])
+        (λ e.
+        record {
+          lawful = tt;
+          known = λ o. (record { key = refl; put = sym (hash-none (tag key)); take = sym (hash-none (tag key)); clock = refl; fault = refl }, record { marked = fresh-unused; sixteen = refl });
+        })
+        (λ e. record { lawful = tt; known = λ o. absurd (true≢false o) })
+
+    goes-on : (s : State) (m : List ℕ) (all : List Event) (c : Call) (r : Step) → Going s all → Did w tag key s m (follow (empty 0) all) c r → Going (r .seen .state) (all ++ r .events)
+    goes-on s m all c r g (still st so ev ve n) = subst (λ (x : State). Going x (all ++ r .events)) (sym st) (subst (Going s) (sym (ap (λ (es : List Event). all ++ es) ev ∙ append-nil all)) g)
+    goes-on s m all c r g (does o y d) =
+        let same = sym (foldl-append noted (empty 0) all (r .events)) in
+        record {
+          lawful = along-append (May (tag key)) (empty 0) all (r .events) (g .lawful) (d .lawful);
+          known = λ k. (subst (Follows tag key (r .seen .state)) same (d .follows k), subst (Fit (r .seen .state)) same (d .fit k));
+        }
+
+    pub going : (run : List Lent) → Going (stateAfter w tag key run) (eventsOf w tag key run)
+    unfolding after events
+    going =
+        by-last (λ (run : List Lent). Going (stateAfter w tag key run) (eventsOf w tag key run)) begins
+        (λ run x ih.
+        let s = stateAfter w tag key run in
+        subst (λ (t : State). Going t (eventsOf w tag key (run ++ (x ∷ [])))) (sym (state-last key run x))
+        (subst (Going (result w tag key run x .seen .state)) (sym (events-last key run x))
+        (goes-on s (x .bytes) (eventsOf w tag key run) (x .call) (result w tag key run x) ih (did w tag key s (x .bytes) (bagOf key run) (ih .known) (x .call)))))
+
+    -- each call of a run shows what a call has to
+    pub did-then : (run : List Lent) (x : Lent) → Did w tag key (stateAfter w tag key run) (x .bytes) (bagOf key run) (x .call) (result w tag key run x)
+    did-then run x = did w tag key (stateAfter w tag key run) (x .bytes) (bagOf key run) (going run .known) (x .call)
