@@ -30,35 +30,35 @@ unfoldable pub Distinct : List ℕ → Type 0
 Distinct [] = Unit {0}
 Distinct (c ∷ cs) = (among c cs ≡ false) × Distinct cs
 
--- ---- an event at each
+-- ---- an event at each: k is a take or a put, and e c its entry at the address c
 
 -- what is held then, where the event at c leaves o c there
-module _ (x : ℕ → Event) (o : ℕ → Option Entry) (one : (b : Bag) (c : ℕ) → noted b (x c) .held ≡ upd (b .held) c (o c)) where
-  pub held-each : (cs : List ℕ) (b : Bag) (a : ℕ) → follow b (map x cs) .held a ≡ cond (among a cs) (o a) (b .held a)
+module _ (k : Entry → Event) (e : ℕ → Entry) (o : ℕ → Option Entry) (one : (b : Bag) (c : ℕ) → noted b (k (e c)) .held ≡ upd (b .held) c (o c)) where
+  pub held-each : (cs : List ℕ) (b : Bag) (a : ℕ) → follow b (map k (map e cs)) .held a ≡ cond (among a cs) (o a) (b .held a)
   unfolding among
   held-each [] b a = refl
-  held-each (c ∷ cs) b a = held-each cs (noted b (x c)) a ∙ ap (λ (f : ℕ → Option Entry). cond (among a cs) (o a) (f a)) (one b c) ∙ go (among a cs) (eqb a c) refl
+  held-each (c ∷ cs) b a = held-each cs (noted b (k (e c))) a ∙ ap (λ (f : ℕ → Option Entry). cond (among a cs) (o a) (f a)) (one b c) ∙ go (among a cs) (eqb a c) refl
     where
       go : (t u : Bool) → eqb a c ≡ u → cond t (o a) (upd (b .held) c (o c) a) ≡ cond (u || t) (o a) (b .held a)
-      go true true e = refl
-      go true false e = refl
-      go false true e = upd-same (b .held) c (o c) a e ∙ ap o (sym (eqb-true a c e))
-      go false false e = upd-other (b .held) c (o c) a e
+      go true true q = refl
+      go true false q = refl
+      go false true q = upd-same (b .held) c (o c) a q ∙ ap o (sym (eqb-true a c q))
+      go false false q = upd-other (b .held) c (o c) a q
 
 -- what holds along them: Q is what the event at an address needs, and an event elsewhere keeps
-module _ (P : Bag → Event → Type 0) (Q : Bag → ℕ → Type 0) (x : ℕ → Event) (need : (b : Bag) (c : ℕ) → Q b c → P b (x c))
-    (keep : (b : Bag) (c a : ℕ) → eqb a c ≡ false → Q b a → Q (noted b (x c)) a) where
-  pub along-each : (cs : List ℕ) → Distinct cs → (b : Bag) → ((a : ℕ) → among a cs ≡ true → Q b a) → Along P b (map x cs)
+module _ (P : Bag → Event → Type 0) (Q : Bag → ℕ → Type 0) (k : Entry → Event) (e : ℕ → Entry) (need : (b : Bag) (c : ℕ) → Q b c → P b (k (e c)))
+    (keep : (b : Bag) (c a : ℕ) → eqb a c ≡ false → Q b a → Q (noted b (k (e c))) a) where
+  pub along-each : (cs : List ℕ) → Distinct cs → (b : Bag) → ((a : ℕ) → among a cs ≡ true → Q b a) → Along P b (map k (map e cs))
   unfolding among Distinct
   along-each [] d b h = tt
   along-each (c ∷ cs) (n, d) b h =
-      (need b c (h c (rw (eq-eqb c c refl))), along-each cs d (noted b (x c)) (λ a k. keep b c a (apart a k) (h a (rw (k, or-true)))))
+      (need b c (h c (rw (eq-eqb c c refl))), along-each cs d (noted b (k (e c))) (λ a q. keep b c a (apart a q) (h a (rw (q, or-true)))))
     where
       apart : (a : ℕ) → among a cs ≡ true → eqb a c ≡ false
-      apart a k = ne-eqb a c (λ e. false≢true (sym n ∙ ap (λ (z : ℕ). among z cs) (sym e) ∙ k))
+      apart a q = ne-eqb a c (λ z. false≢true (sym n ∙ ap (λ (x : ℕ). among x cs) (sym z) ∙ q))
 
 -- a right take at each was of what was held before them all
-pub right-each : (e : ℕ → Entry) → ((c : ℕ) → e c .address ≡ c) → (cs : List ℕ) (b : Bag) → Right b (map (λ c. took (e c)) cs) → (a : ℕ) → among a cs ≡ true → b .held a ≡ some (e a)
+pub right-each : (e : ℕ → Entry) → ((c : ℕ) → e c .address ≡ c) → (cs : List ℕ) (b : Bag) → Right b (map took (map e cs)) → (a : ℕ) → among a cs ≡ true → b .held a ≡ some (e a)
 unfolding among noted
 right-each e at [] b r a k = absurd (false≢true k)
 right-each e at (c ∷ cs) b (h, r) a k = go (eqb a c) refl (right-each e at cs (noted b (took (e c))) r a)

@@ -30,10 +30,10 @@ held-none (some d) h = absurd (true≢false h)
 
 -- a take at each of these addresses of what its cell holds, and a put of the value with stamp 1
 abbrev pub takesAt : ℕ → List ℕ → List ℕ → List Event
-takesAt w m cs = map (λ a. took (entryAt w m a)) cs
+takesAt w m cs = map took (map (entryAt w m) cs)
 
 abbrev pub putsAt : ℕ → List ℕ → List ℕ → List Event
-putsAt w m cs = map (λ a. put (opening w m a)) cs
+putsAt w m cs = map put (map (opening w m) cs)
 
 module _ (w : ℕ) (m : List ℕ) (b : Bag) (cs : List ℕ) (once : Distinct cs) (exact : (a : ℕ) → among a cs ≡ there (b .held a)) where
   -- ---- the takes
@@ -41,13 +41,13 @@ module _ (w : ℕ) (m : List ℕ) (b : Bag) (cs : List ℕ) (once : Distinct cs)
   pub takes-lawful : (tag : Entry → List ℕ) → Lawful tag b (takesAt w m cs)
   unfolding noted entryAt
   takes-lawful tag =
-      along-each (May tag) (λ b a. (d : Entry) × (b .held a ≡ some d)) (λ a. took (entryAt w m a)) (λ b a h. h) (λ b c a n h. (h .0, upd-other (b .held) c none a n ∙ h .1)) cs once b
+      along-each (May tag) (λ b a. (d : Entry) × (b .held a ≡ some d)) took (entryAt w m) (λ b a h. h) (λ b c a n h. (h .0, upd-other (b .held) c none a n ∙ h .1)) cs once b
       (λ a k. held-some (b .held a) (sym (exact a) ∙ k))
 
   pub takes-right : Holds w b m → Right b (takesAt w m cs)
   unfolding noted entryAt
   takes-right h =
-      along-each TakesHeld (λ b a. b .held a ≡ some (entryAt w m a)) (λ a. took (entryAt w m a)) (λ b a h. h) (λ b c a n h. upd-other (b .held) c none a n ∙ h) cs once b
+      along-each TakesHeld (λ b a. b .held a ≡ some (entryAt w m a)) took (entryAt w m) (λ b a h. h) (λ b c a n h. upd-other (b .held) c none a n ∙ h) cs once b
       (λ a k. let d = held-some (b .held a) (sym (exact a) ∙ k) in d .1 ∙ ap some (sym (h a (d .0) (d .1))))
 
   pub right-held : Right b (takesAt w m cs) → (a : ℕ) → among a cs ≡ true → b .held a ≡ some (entryAt w m a)
@@ -56,7 +56,7 @@ module _ (w : ℕ) (m : List ℕ) (b : Bag) (cs : List ℕ) (once : Distinct cs)
 
   pub takes-bare : Bare (follow b (takesAt w m cs))
   unfolding noted entryAt
-  takes-bare a = held-each (λ c. took (entryAt w m c)) (λ c. none) (λ b c. refl) cs b a ∙ go (among a cs) refl
+  takes-bare a = held-each took (entryAt w m) (λ c. none) (λ b c. refl) cs b a ∙ go (among a cs) refl
     where
       go : (u : Bool) → among a cs ≡ u → cond (among a cs) none (b .held a) ≡ none
       go true u = rw u
@@ -67,22 +67,22 @@ module _ (w : ℕ) (m : List ℕ) (b : Bag) (cs : List ℕ) (once : Distinct cs)
   pub puts-lawful : (tag : Entry → List ℕ) → Lawful tag (empty 1) (putsAt w m cs)
   unfolding noted empty opening
   puts-lawful tag =
-      along-each (May tag) (λ b a. (b .held a ≡ none) × (b .takes ≡ []) × (b .clock ≡ 1)) (λ a. put (opening w m a)) (λ b a h. (h .0, inr (h .1, sym (h .2))))
+      along-each (May tag) (λ b a. (b .held a ≡ none) × (b .takes ≡ []) × (b .clock ≡ 1)) put (opening w m) (λ b a h. (h .0, inr (h .1, sym (h .2))))
       (λ b c a n h. (upd-other (b .held) c (some (opening w m c)) a n ∙ h .0, h .1, refl)) cs once (empty 1) (λ a k. (refl, refl, refl))
 
   -- what is held after them
   pub puts-held : (a : ℕ) → follow (empty 1) (putsAt w m cs) .held a ≡ cond (among a cs) (some (opening w m a)) none
   unfolding noted empty opening
-  puts-held a = held-each (λ c. put (opening w m c)) (λ c. some (opening w m c)) (λ b c. refl) cs (empty 1) a
+  puts-held a = held-each put (opening w m) (λ c. some (opening w m c)) (λ b c. refl) cs (empty 1) a
 
   -- ---- sizes
 
   module _ (below : (a : ℕ) → among a cs ≡ true → a < addresses) (size : length m ≡ storeSize w) where
     pub takes-fit : Bytes m → Along (TakeFits w) b (takesAt w m cs)
-    takes-fit h = along-each (TakeFits w) (λ b a. a < addresses) (λ a. took (entryAt w m a)) (λ b a k. taken-fits w m h a k size) (λ b c a n k. k) cs once b below
+    takes-fit h = along-each (TakeFits w) (λ b a. a < addresses) took (entryAt w m) (λ b a k. taken-fits w m h a k size) (λ b c a n k. k) cs once b below
 
     pub puts-fit : 1 ≤ ceiling w → Along (PutFits w) (empty 1) (putsAt w m cs)
     unfolding opening
     puts-fit one =
-        along-each (PutFits w) (λ b a. a < addresses) (λ a. put (opening w m a)) (λ b a k. record { address = k; value = value-length w m a k size; stamp = one })
+        along-each (PutFits w) (λ b a. a < addresses) put (opening w m) (λ b a k. record { address = k; value = value-length w m a k size; stamp = one })
         (λ b c a n k. k) cs once (empty 1) below

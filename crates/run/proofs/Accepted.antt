@@ -1,7 +1,6 @@
 -- The accepted events of a run are its checks that accept, with their takes before them: each call shows it of its own. Assumes nothing.
 use mathlib.Core.Path.{_≡_, refl, sym, ap, _∙_}
 use mathlib.Core.List.{List, [], _∷_, _++_, append-assoc}
-use mathlib.Core.Logic.{_⊎_, inl, inr}
 use Prim.Native.Nat.{ℕ}
 use native.Mathlib.Omega.{arith}
 use Rattle.state.specs.Cells.{Entry}
@@ -10,13 +9,14 @@ use Rattle.state.specs.Step.{Event, accepted, Step}
 use Rattle.state.specs.Check.{checkRows, agrees, takes, puts, takeAll, acceptance, rejection, checkOf}
 use Rattle.state.specs.declared.State.{State}
 use Rattle.state.specs.declared.Verdict.the-variants.{Accept}
-use Rattle.bag.proofs.Lists.{by-last, place-in, no-place, place-stays}
+use Rattle.bag.proofs.Lists.{no-place}
 use Rattle.bag.proofs.Cases.{by-cond}
 use Rattle.run.specs.Calls.{Call, check, Lent, lent, step, events}
 use Rattle.run.specs.Demand3.{stateAfter, result, eventsOf, Accepts}
-use Rattle.run.proofs.Does.{Did, still, does}
+use Rattle.run.proofs.Does.{still, does}
 use Rattle.run.proofs.Steps.{by-rows}
-use Rattle.run.proofs.FromStart.{events-append, bagOf, events-last, did-then}
+use Rattle.run.proofs.Runs.{CallOf, call-of}
+use Rattle.run.proofs.FromStart.{events-append, doneBy, events-none, events-last, RunDid, run-did}
 
 -- what a check that accepts gives
 pub accepts-gives : (w : ℕ) (tag : List ℕ → Entry → List ℕ) (s : State) (m : List ℕ) → step w tag s m check .seen .verdict ≡ Accept → step w tag s m check ≡ acceptance w tag s m
@@ -37,35 +37,23 @@ module _ (w : ℕ) (tag : List ℕ → Entry → List ℕ) (key : List ℕ) wher
     pub upTo : past ≡ eventsOf w tag key before ++ takes w (stateAfter w tag key before) bytes
 
   pub accepted-check : (run : List Lent) (past rest : List Event) → eventsOf w tag key run ≡ past ++ (accepted ∷ rest) → AcceptedCheck run past
-  unfolding events
-  accepted-check = by-last (λ (run : List Lent). (past rest : List Event) → eventsOf w tag key run ≡ past ++ (accepted ∷ rest) → AcceptedCheck run past) (λ past rest e. absurd (no-place past accepted rest e)) more
+  accepted-check run past rest e = go (run-did w tag key (k .before) (k .call))
     where
-      stays : (run : List Lent) (x : Lent) (past : List Event) → AcceptedCheck run past → AcceptedCheck (run ++ (x ∷ [])) past
-      stays run x past c =
-          record { before = c .before; later = c .later ++ (x ∷ []); bytes = c .bytes; place = place-stays run (c .before) (lent check (c .bytes)) (c .later) (x ∷ []) (c .place); accepts = c .accepts; upTo = c .upTo }
+      k : CallOf (doneBy w tag key) (eventsOf w tag key) (events-none w tag key) (events-last w tag key) run past accepted
+      k = call-of (doneBy w tag key) (eventsOf w tag key) (events-none w tag key) (events-last w tag key) accepted run past rest e
 
-      here : (run : List Lent) (x : Lent) (past d rest : List Event) → past ≡ eventsOf w tag key run ++ d → result w tag key run x .events ≡ d ++ (accepted ∷ rest)
-          → Did w tag key (stateAfter w tag key run) (x .bytes) (bagOf w tag key run) (x .call) (result w tag key run x) → AcceptedCheck (run ++ (x ∷ [])) past
-      here run x past d rest f g (still st so ev ve n) = absurd (no-place d accepted rest (sym ev ∙ g))
-      here run x past d rest f g (does o y k) =
-          let h = k .accepts d rest g in
+      go : RunDid w tag key (k .before) (k .call) → AcceptedCheck run past
+      go (still n) = absurd (no-place (k .first) accepted (k .rest) (sym (n .events) ∙ k .within))
+      go (does o y d) =
+          let h = d .accepts (k .first) (k .rest) (k .within) in
           record {
-            before = run;
-            later = [];
-            bytes = x .bytes;
-            place = ap (λ (c : Call). run ++ (lent c (x .bytes) ∷ [])) (h .0);
-            accepts = ap (λ (c : Call). result w tag key run (lent c (x .bytes)) .seen .verdict) (sym (h .0)) ∙ h .1;
-            upTo = f ∙ ap (λ (es : List Event). eventsOf w tag key run ++ es) (h .2);
+            before = k .before;
+            later = k .later;
+            bytes = k .call .bytes;
+            place = k .place ∙ ap (λ (c : Call). k .before ++ (lent c (k .call .bytes) ∷ k .later)) (h .0);
+            accepts = ap (λ (c : Call). result w tag key (k .before) (lent c (k .call .bytes)) .seen .verdict) (sym (h .0)) ∙ h .1;
+            upTo = k .upTo ∙ ap (λ (es : List Event). eventsOf w tag key (k .before) ++ es) (h .2);
           }
-
-      more : (run : List Lent) (x : Lent) → ((past rest : List Event) → eventsOf w tag key run ≡ past ++ (accepted ∷ rest) → AcceptedCheck run past)
-          → (past rest : List Event) → eventsOf w tag key (run ++ (x ∷ [])) ≡ past ++ (accepted ∷ rest) → AcceptedCheck (run ++ (x ∷ [])) past
-      more run x ih past rest e = go (place-in (eventsOf w tag key run) (result w tag key run x .events) past accepted rest (sym (events-last w tag key run x) ∙ e))
-        where
-          go : ((d : List Event) × (eventsOf w tag key run ≡ past ++ (accepted ∷ d)) × (rest ≡ d ++ result w tag key run x .events))
-              ⊎ ((d : List Event) × (past ≡ eventsOf w tag key run ++ d) × (result w tag key run x .events ≡ d ++ (accepted ∷ rest))) → AcceptedCheck (run ++ (x ∷ [])) past
-          go (inl (d, f, g)) = stays run x past (ih past d f)
-          go (inr (d, f, g)) = here run x past d rest f g (did-then w tag key run x)
 
   pub check-accepted : (run : List Lent) (past : List Event) → AcceptedCheck run past → (rest : List Event) × (eventsOf w tag key run ≡ past ++ (accepted ∷ rest))
   unfolding events acceptance

@@ -2,7 +2,7 @@
 -- Assumes nothing.
 use mathlib.Core.Path.{_≡_, refl, sym, ap, _∙_, subst}
 use mathlib.Core.Bool.{Bool, true, false, cond, true≢false}
-use mathlib.Core.List.{List, [], _∷_, _++_, map-map, foldl-append, append-nil, tail-eq-of-cons-eq}
+use mathlib.Core.List.{List, [], _∷_, _++_, foldl-append, append-nil, tail-eq-of-cons-eq}
 use mathlib.Core.Option.{none, some}
 use mathlib.Core.Logic.{_⊎_, inl, inr}
 use Prim.Native.Nat.{ℕ, _<_}
@@ -30,7 +30,7 @@ use Rattle.bag.proofs.Faults.{calm-before}
 use Rattle.bag.proofs.Follows.{opened-follows, takes-follow, puts-follow}
 use Rattle.bag.proofs.Stores.{takes-hold, puts-hold}
 use Rattle.bag.proofs.Addresses.{among, Distinct, in-use, in-use-distinct}
-use Rattle.bag.proofs.Walks.{takesAt, putsAt, takes-lawful, takes-right, right-held, takes-bare, takes-fit, puts-lawful, puts-held, puts-fit}
+use Rattle.bag.proofs.Walks.{takes-lawful, takes-right, right-held, takes-bare, takes-fit, puts-lawful, puts-held, puts-fit}
 use Rattle.run.specs.Calls.{check}
 use Rattle.run.specs.Demand3.{Sets}
 use Rattle.run.proofs.Does.{Fit, Room, Kept, Does}
@@ -47,14 +47,6 @@ module _ (w : ℕ) (tag : List ℕ → Entry → List ℕ) (key : List ℕ) (s :
   exact : (a : ℕ) → among a cs ≡ there (b .held a)
   exact a = in-use (s .marks) (t .sixteen) a ∙ t .marked a
 
-  takes-at : takes w s m ≡ takesAt w m cs
-  unfolding takes taken
-  takes-at = map-map took (entryAt w m) cs
-
-  puts-at : puts w s m ≡ putsAt w m cs
-  unfolding puts reput
-  puts-at = map-map put (opening w m) cs
-
   abbrev once : Distinct cs
   once = in-use-distinct (s .marks)
 
@@ -64,16 +56,20 @@ module _ (w : ℕ) (tag : List ℕ → Entry → List ℕ) (key : List ℕ) (s :
   -- ---- the takes, which every check makes
 
   pub taken-lawful : Lawful (tag key) b (takes w s m)
-  taken-lawful = subst (Lawful (tag key) b) (sym takes-at) (takes-lawful w m b cs once exact (tag key))
+  unfolding takes taken
+  taken-lawful = takes-lawful w m b cs once exact (tag key)
 
   pub taken-right : Holds w b m → Right b (takes w s m)
-  taken-right h = subst (Right b) (sym takes-at) (takes-right w m b cs once exact h)
+  unfolding takes taken
+  taken-right = takes-right w m b cs once exact
 
   taken-fit : length m ≡ storeSize w → Bytes m → Along (TakeFits w) b (takes w s m)
-  taken-fit size h = subst (Along (TakeFits w) b) (sym takes-at) (takes-fit w m b cs once exact below size h)
+  unfolding takes taken
+  taken-fit = takes-fit w m b cs once exact below
 
   pub taken-bare : Bare (follow b (takes w s m))
-  taken-bare = subst (λ (es : List Event). Bare (follow b es)) (sym takes-at) (takes-bare w m b cs once exact)
+  unfolding takes taken
+  taken-bare = takes-bare w m b cs once exact
 
   pub taken-follows : Follows tag key (takeAll w tag s m) (follow b (takes w s m))
   unfolding takes takeAll
@@ -118,10 +114,10 @@ module _ (w : ℕ) (tag : List ℕ → Entry → List ℕ) (key : List ℕ) (s :
     calm = sym (taken-follows .fault) ∙ agrees-tells (takeAll w tag s m) agreed .1
 
     accepted-lawful : Lawful (tag key) b all
-    unfolding noted
+    unfolding noted puts reput
     accepted-lawful =
         along-append (May (tag key)) b (takes w s m) (accepted ∷ puts w s m) taken-lawful
-        ((taken-bare, sym (taken-follows .put) ∙ agrees-tells (takeAll w tag s m) agreed .0 ∙ taken-follows .take, calm), subst (Lawful (tag key) (empty 1)) (sym puts-at) (puts-lawful w m b cs once exact (tag key)))
+        ((taken-bare, sym (taken-follows .put) ∙ agrees-tells (takeAll w tag s m) agreed .0 ∙ taken-follows .take, calm), puts-lawful w m b cs once exact (tag key))
 
     accepted-follows : Follows tag key (putAll w tag s m) (follow b all)
     unfolding takes puts putAll
@@ -130,9 +126,13 @@ module _ (w : ℕ) (tag : List ℕ → Entry → List ℕ) (key : List ℕ) (s :
         (puts-follow tag key (opened s) (empty 1) (reput w (s .marks) m) (opened-follows tag key s (f .key) (f .fault ∙ calm-before b (takes w s m) taken-unbroken calm)))
 
     accepted-held : (a : ℕ) → follow b all .held a ≡ cond (used (s .marks) a) (some (opening w m a)) none
+    unfolding puts reput
     accepted-held a =
-        ap (λ (x : Bag). x .held a) opens-empty ∙ ap (λ (es : List Event). follow (empty 1) es .held a) puts-at ∙ puts-held w m b cs once exact a
-        ∙ ap (λ (u : Bool). cond u (some (opening w m a)) none) (in-use (s .marks) (t .sixteen) a)
+        ap (λ (x : Bag). x .held a) opens-empty ∙ puts-held w m b cs once exact a ∙ ap (λ (u : Bool). cond u (some (opening w m a)) none) (in-use (s .marks) (t .sixteen) a)
+
+    opening-fits : Room w b → Along (PutFits w) (empty 1) (puts w s m)
+    unfolding puts reput
+    opening-fits g = puts-fit w m b cs once exact below size (g .0)
 
     accepted-fit : Fit (putAll w tag s m) (follow b all)
     accepted-fit =
@@ -147,17 +147,17 @@ module _ (w : ℕ) (tag : List ℕ → Entry → List ℕ) (key : List ℕ) (s :
     unfolding writeAll puts empty
     accepted-holds g =
         subst (λ (x : Bag). Holds w x (writeAll w s m)) (sym opens-empty)
-        (puts-hold w (empty 1) m (reput w (s .marks) m) (subst (Along (PutFits w) (empty 1)) (sym puts-at) (puts-fit w m b cs once exact below size (g .0))) size (λ a e k. none-some refl k))
+        (puts-hold w (empty 1) m (reput w (s .marks) m) (opening-fits g) size (λ a e k. none-some refl k))
 
     accepted-kept : Right b all → (a : ℕ) (e : Entry) → follow b all .held a ≡ some e → Kept b check a e
-    unfolding entryAt opening
+    unfolding entryAt opening takes taken
     accepted-kept r a e k = go (used (s .marks) a) refl
       where
         go : (u : Bool) → used (s .marks) a ≡ u → Kept b check a e
         go true u =
             let z : some (opening w m a) ≡ some e = sym (accepted-held a ∙ rw u) ∙ k in
             let y : opening w m a ≡ e = cc in
-            let h = right-held w m b cs once exact (subst (Right b) takes-at (along-split TakesHeld b (takes w s m) (accepted ∷ puts w s m) r .0)) a (in-use (s .marks) (t .sixteen) a ∙ u) in
+            let h = right-held w m b cs once exact (along-split TakesHeld b (takes w s m) (accepted ∷ puts w s m) r .0) a (in-use (s .marks) (t .sixteen) a ∙ u) in
             inr ((λ v h. check-sets a v h), (entryAt w m a, h, ap (λ (x : Entry). x .value) y))
         go false u = none-some (accepted-held a ∙ rw u) k
 
@@ -181,7 +181,7 @@ module _ (w : ℕ) (tag : List ℕ → Entry → List ℕ) (key : List ℕ) (s :
           lawful = accepted-lawful;
           follows = λ o. accepted-follows;
           fit = λ o. accepted-fit;
-          putFits = λ g. along-append (PutFits w) b (takes w s m) (accepted ∷ puts w s m) (along-map (PutFits w) took (λ x e. tt) b (taken w (s .marks) m)) (tt, subst (Along (PutFits w) (empty 1)) (sym puts-at) (puts-fit w m b cs once exact below size (g .0)));
+          putFits = λ g. along-append (PutFits w) b (takes w s m) (accepted ∷ puts w s m) (along-map (PutFits w) took (λ x e. tt) b (taken w (s .marks) m)) (tt, opening-fits g);
           takeFits = λ h. along-append (TakeFits w) b (takes w s m) (accepted ∷ puts w s m) (taken-fit size h) (tt, along-map (TakeFits w) put (λ x e. tt) (empty 1) (reput w (s .marks) m));
           honest = λ g h. (along-append TakesHeld b (takes w s m) (accepted ∷ puts w s m) (taken-right h) (tt, along-map TakesHeld put (λ x e. tt) (empty 1) (reput w (s .marks) m)), accepted-holds g);
           kept = accepted-kept;

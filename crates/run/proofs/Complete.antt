@@ -2,7 +2,7 @@
 -- hashes equal and no stamp ahead. Assumes nothing.
 use mathlib.Core.Path.{_≡_, refl, sym, ap, _∙_, subst}
 use mathlib.Core.Bool.{false}
-use mathlib.Core.List.{List, [], _∷_, _++_, append-assoc, append-nil, foldl-append}
+use mathlib.Core.List.{List, [], _∷_, _++_, append-assoc, foldl-append}
 use mathlib.Core.Logic.{_⊎_, inl, inr}
 use Prim.Native.Nat.{ℕ, _≤_}
 use Rattle.state.specs.Cells.{Entry}
@@ -13,61 +13,52 @@ use Rattle.state.specs.declared.State.{State}
 use Rattle.state.proofs.Ready.{check-ready}
 use Rattle.state.proofs.Guards.{equal-accepts}
 use Rattle.state.proofs.Multiset.{same-counts}
-use Rattle.bag.specs.Bag.{Bag, empty, noted, follow}
+use Rattle.bag.specs.Bag.{empty, noted, follow}
 use Rattle.bag.specs.Law.{Bare, May, TakesHeld, Right}
 use Rattle.bag.specs.Claims.{Holds}
-use Rattle.bag.proofs.Lists.{by-last, place-stays}
+use Rattle.bag.proofs.Lists.{place-stays}
 use Rattle.bag.proofs.Along.{along-append}
 use Rattle.bag.proofs.Orderly.{there, none-some, empty-orderly}
 use Rattle.bag.proofs.Complete.{complete}
-use Rattle.run.specs.Calls.{check, Lent, lent, step, events}
-use Rattle.run.specs.Demand3.{Latest, stateAfter, result, eventsOf, Done, Accepts, Moves, Unaltered, EachCheck}
-use Rattle.run.proofs.Does.{Did, still, does}
+use Rattle.run.specs.Calls.{check, Lent, lent, step}
+use Rattle.run.specs.Demand3.{stateAfter, result, eventsOf, Done, Accepts, Moves, Unaltered, EachCheck}
+use Rattle.run.proofs.Does.{still, does}
 use Rattle.run.proofs.Checks.{taken-lawful, taken-right, taken-bare}
-use Rattle.run.proofs.Latest.{latest-here, latest-keeps}
-use Rattle.run.proofs.Runs.{bag-last, along-run}
-use Rattle.run.proofs.FromStart.{bagOf, events-none, events-last, going, did-then}
+use Rattle.run.proofs.Runs.{Left, lent-right}
+use Rattle.run.proofs.FromStart.{doneBy, bagOf, events-none, events-last, invariant, RunDid, run-did, moves-does}
 use Rattle.run.proofs.Exact.{check-done, check-follows}
 use Rattle.run.proofs.Sized.{run-room}
 
 module _ (w : ℕ) (one : 1 ≤ w) (tag : List ℕ → Entry → List ℕ) (key : List ℕ) where
-  -- nothing is held, or the store that the latest call left holds it
-  Left : List Lent → Bag → Type 0
-  Left run b = Bare b ⊎ ((l : Latest (Moves w tag key) run) × Holds w b (result w tag key (l .before) (l .call) .seen .store))
+  abbrev leaves : List Lent → Lent → List ℕ
+  leaves run x = result w tag key run x .seen .store
 
-  -- what a call is lent holds what is held
-  lent-holds : (run : List Lent) (x : Lent) → Unaltered w tag key (run ++ (x ∷ [])) → Moves w tag key run x → stateAfter w tag key run .closed ≡ false → Left run (bagOf w tag key run)
-      → Holds w (bagOf w tag key run) (x .bytes)
-  unfolding Left
-  lent-holds run x u m o (inl n) a e h = none-some (n a) h
-  lent-holds run x u m o (inr (l, k)) a e h = u run [] x refl m l a (going w tag key run .known o .1 .marked a ∙ ap there h) ∙ k a e h
+  moving : (run : List Lent) (x : Lent) → Moves w tag key run x ⊎ ((Moves w tag key run x → ⊥) × (doneBy w tag key run x ≡ []))
+  moving run x = go (run-did w tag key run x)
+    where
+      go : RunDid w tag key run x → Moves w tag key run x ⊎ ((Moves w tag key run x → ⊥) × (doneBy w tag key run x ≡ []))
+      go (still n) = inr ((λ m. n .idle (m .0) (m .1)), n .events)
+      go (does o y d) = inl (d .number, y)
+
+  moves-honest : (run : List Lent) (x : Lent) → Moves w tag key run x → Holds w (bagOf w tag key run) (x .bytes)
+      → Right (bagOf w tag key run) (doneBy w tag key run x) × Holds w (follow (bagOf w tag key run) (doneBy w tag key run x)) (leaves run x)
+  moves-honest run x m h = moves-does w tag key run x m .1 .honest (run-room w tag key one run) h
+
+  abbrev LeftBy : List Lent → Type 0
+  LeftBy run = Left (doneBy w tag key) (eventsOf w tag key) (events-none w tag key) (events-last w tag key) w (Moves w tag key) (λ x. x .bytes) leaves moving moves-honest run (eventsOf w tag key run)
+
+  -- what such a call is lent holds what is held
+  lent-holds : (run : List Lent) → Unaltered w tag key run → (before later : List Lent) (x : Lent) → run ≡ before ++ (x ∷ later) → Moves w tag key before x → LeftBy before → Holds w (bagOf w tag key before) (x .bytes)
+  lent-holds run u before later x place m (inl n) a e h = none-some (n a) h
+  lent-holds run u before later x place m (inr (l, k)) a e h =
+      u before later x place m l a (invariant w tag key before .follows (moves-does w tag key before x m .0) .1 .marked a ∙ ap there h) ∙ k a e h
+
+  honest : (run : List Lent) → Unaltered w tag key run → Right (empty 0) (eventsOf w tag key run) × LeftBy run
+  honest run u =
+      lent-right (doneBy w tag key) (eventsOf w tag key) (events-none w tag key) (events-last w tag key) w (Moves w tag key) (λ x. x .bytes) leaves moving moves-honest run (lent-holds run u)
 
   pub unaltered-part : (p q : List Lent) → Unaltered w tag key (p ++ q) → Unaltered w tag key p
   unaltered-part p q u before later x e = u before (later ++ q) x (place-stays p before x later q e)
-
-  abbrev Honest : List Lent → Type 0
-  Honest run = Right (empty 0) (eventsOf w tag key run) × Left run (bagOf w tag key run)
-
-  honest : (run : List Lent) → Unaltered w tag key run → Honest run
-  unfolding events Left empty latest-here latest-keeps
-  honest = by-last (λ (run : List Lent). Unaltered w tag key run → Honest run) (λ u. (tt, inl (λ a. refl))) (λ run x ih u. go run x u (ih (unaltered-part run (x ∷ []) u)) (did-then w tag key run x))
-    where
-      go : (run : List Lent) (x : Lent) → Unaltered w tag key (run ++ (x ∷ [])) → Honest run → Did w tag key (stateAfter w tag key run) (x .bytes) (bagOf w tag key run) (x .call) (result w tag key run x)
-          → Honest (run ++ (x ∷ []))
-      go run x u (r, l) (still st so ev ve n) =
-          let same : eventsOf w tag key run ≡ eventsOf w tag key (run ++ (x ∷ [])) = sym (events-last w tag key run x ∙ ap (λ (es : List Event). eventsOf w tag key run ++ es) ev ∙ append-nil (eventsOf w tag key run)) in
-          (subst (Right (empty 0)) same r, subst (λ (es : List Event). Left (run ++ (x ∷ [])) (follow (empty 0) es)) same (keeps l))
-        where
-          keeps : Left run (bagOf w tag key run) → Left (run ++ (x ∷ [])) (bagOf w tag key run)
-          keeps (inl k) = inl k
-          keeps (inr (y, k)) = inr (latest-keeps (Moves w tag key) run x y (λ m. n (m .0) (m .1)), k)
-      go run x u (r, l) (does o y d) =
-          let m : Moves w tag key run x = (d .number, y) in
-          let h = d .honest (run-room w tag key one run) (lent-holds run x u m o l) in
-          let same = bag-last (λ (p : List Lent) (z : Lent). result w tag key p z .events) (eventsOf w tag key) (events-none w tag key) (events-last w tag key) run x in (
-            along-run (λ p z. result w tag key p z .events) (eventsOf w tag key) (events-none w tag key) (events-last w tag key) TakesHeld run x r (h .0),
-            inr (latest-here (Moves w tag key) run x m, subst (λ (b : Bag). Holds w b (result w tag key run x .seen .store)) (sym same) (h .1)),
-          )
 
   -- ---- a check
 
@@ -85,16 +76,16 @@ module _ (w : ℕ) (one : 1 ≤ w) (tag : List ℕ → Entry → List ℕ) (key 
     unfolding empty
     all-complete =
         let h = honest run (unaltered-part run (lent check m ∷ []) u) in
-        let k = going w tag key run .known unclosed in
+        let k = invariant w tag key run .follows unclosed in
         let b = bagOf w tag key run in
         complete (tag key) (empty 0) all (empty-orderly 0) refl refl
-        (along-append (May (tag key)) (empty 0) (eventsOf w tag key run) (takes w s m) (going w tag key run .lawful) (taken-lawful w tag key s m b (k .0) (k .1)))
-        (along-append TakesHeld (empty 0) (eventsOf w tag key run) (takes w s m) (h .0) (taken-right w tag key s m b (k .0) (k .1) (lent-holds run (lent check m) u (d, refl) unclosed (h .1))))
+        (along-append (May (tag key)) (empty 0) (eventsOf w tag key run) (takes w s m) (invariant w tag key run .lawful) (taken-lawful w tag key s m b (k .0) (k .1)))
+        (along-append TakesHeld (empty 0) (eventsOf w tag key run) (takes w s m) (h .0) (taken-right w tag key s m b (k .0) (k .1) (lent-holds (run ++ (lent check m ∷ [])) u run [] (lent check m) refl (d, refl) (h .1))))
 
     -- what was put is what was taken
     pub check-even : (c : Entry) → times c (follow (empty 0) all .puts) ≡ times c (follow (empty 0) all .takes)
     check-even =
-        let k = going w tag key run .known unclosed in
+        let k = invariant w tag key run .follows unclosed in
         all-complete .1 (subst Bare (sym (foldl-append noted (empty 0) (eventsOf w tag key run) (takes w s m))) (taken-bare w tag key s m (bagOf w tag key run) (k .0) (k .1)))
 
     -- the second half

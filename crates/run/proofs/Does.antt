@@ -48,7 +48,14 @@ module _ (w : ℕ) (tag : List ℕ → Entry → List ℕ) (key : List ℕ) (s :
     pub answers : (a : ℕ) (o : List ℕ) → c ≡ load a o → Right b (r .events) → (d : Entry) × (b .held a ≡ some d) × (d .value ≡ r .seen .out)
     pub accepts : (p q : List Event) → r .events ≡ p ++ (accepted ∷ q) → (c ≡ check) × (r .seen .verdict ≡ Accept) × (p ≡ takes w s m)
 
-  -- a call is refused or idle and changes nothing, or it does
+  -- a call that is refused, or idle
+  pub record Still (r : Step) : Type 0 where
+    pub state : r .seen .state ≡ s
+    pub store : r .seen .store ≡ m
+    pub events : r .events ≡ []
+    pub verdict : r .seen .verdict ≡ Nothing
+    pub idle : r .seen .number ≡ 0 → moves c ≡ true → ⊥
+
   pub data Did (r : Step) : Type 0 where
-    still : r .seen .state ≡ s → r .seen .store ≡ m → r .events ≡ [] → r .seen .verdict ≡ Nothing → (r .seen .number ≡ 0 → moves c ≡ true → ⊥) → Did r
+    still : Still r → Did r
     does : s .closed ≡ false → moves c ≡ true → Does r → Did r

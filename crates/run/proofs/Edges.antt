@@ -18,9 +18,9 @@ use Rattle.state.proofs.Starts.{start-done, start-refused}
 use Rattle.bag.proofs.Lists.{by-last, no-place, last-place, place-stays}
 use Rattle.run.specs.Calls.{Call, load, check, Lent, lent, after, events}
 use Rattle.run.specs.Demand3.{Latest, Sets, stateAfter, result, eventsOf, Done, Accepts, LastSet, EachLoad, LastAccepts, Moves, Unaltered}
-use Rattle.run.proofs.Does.{Did, still, does}
+use Rattle.run.proofs.Does.{Still, still, does}
 use Rattle.run.proofs.Latest.{latest-one}
-use Rattle.run.proofs.FromStart.{bagOf, state-last, events-last, did-then}
+use Rattle.run.proofs.FromStart.{bagOf, state-last, events-last, RunDid, run-did}
 use Rattle.run.proofs.Exact.{check-number}
 use Rattle.run.proofs.Complete.{complete-at}
 
@@ -41,18 +41,15 @@ module _ (w : ℕ) (tag : List ℕ → Entry → List ℕ) (key : List ℕ) wher
   pub empty-run : LastAccepts w tag key [] → ⊥
   empty-run (before, m, place, a) = no-place before (lent check m) [] place
 
-  -- a call that changes nothing
-  pub record Nothing-done (run : List Lent) (x : Lent) : Type 0 where
-    pub state : result w tag key run x .seen .state ≡ stateAfter w tag key run
-    pub store : result w tag key run x .seen .store ≡ x .bytes
-    pub events : result w tag key run x .events ≡ []
-    pub verdict : result w tag key run x .seen .verdict ≡ Nothing
+  abbrev StaysStill : List Lent → Lent → Type 0
+  StaysStill run x = Still w tag key (stateAfter w tag key run) (x .bytes) (bagOf w tag key run) (x .call) (result w tag key run x)
 
-  nothing-done : (run : List Lent) (x : Lent) → (stateAfter w tag key run .closed ≡ false → Moves w tag key run x → ⊥) → Nothing-done run x
-  nothing-done run x n = go (did-then w tag key run x)
+  -- a call that is refused, or gets a closed state, or is idle, changes nothing
+  nothing-done : (run : List Lent) (x : Lent) → (stateAfter w tag key run .closed ≡ false → Moves w tag key run x → ⊥) → StaysStill run x
+  nothing-done run x n = go (run-did w tag key run x)
     where
-      go : Did w tag key (stateAfter w tag key run) (x .bytes) (bagOf w tag key run) (x .call) (result w tag key run x) → Nothing-done run x
-      go (still st so ev ve k) = record { state = st; store = so; events = ev; verdict = ve }
+      go : RunDid w tag key run x → StaysStill run x
+      go (still k) = k
       go (does o y d) = absurd (n o (d .number, y))
 
   -- where every call is refused the state is the start's, and no load is answered
@@ -71,7 +68,7 @@ module _ (w : ℕ) (tag : List ℕ → Entry → List ℕ) (key : List ℕ) wher
           (state-last w tag key run x ∙ k .state ∙ h .0, events-last w tag key run x ∙ ap₂ _++_ (h .1) (k .events)))
 
   -- from a refused start the state stays as it is, and no call does anything: no check gives a verdict
-  refused-still : (run : List Lent) (x : Lent) → stateAfter w tag key run ≡ none → Nothing-done run x
+  refused-still : (run : List Lent) (x : Lent) → stateAfter w tag key run ≡ none → StaysStill run x
   unfolding none fresh
   refused-still run x e = nothing-done run x (λ o d. false≢true (sym o ∙ ap (λ (s : State). s .closed) e))
 

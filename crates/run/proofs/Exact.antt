@@ -16,13 +16,14 @@ use Rattle.state.proofs.Guards.{accepts-tells, equal-accepts}
 use Rattle.bag.specs.Bag.{Bag, empty, noted, follow}
 use Rattle.bag.specs.Claims.{Follows}
 use Rattle.bag.proofs.Cases.{by-cond}
+use Rattle.bag.proofs.Orderly.{empty-orderly, stays-orderly}
 use Rattle.bag.proofs.Faults.{on-time, calm-after}
 use Rattle.run.specs.Calls.{check, step, Lent}
-use Rattle.run.specs.Demand3.{Since, stateAfter, eventsOf}
+use Rattle.run.specs.Demand3.{NoTwoAlike, putIn, Since, stateAfter, eventsOf}
 use Rattle.run.specs.Exact.{tick, clockAfter, Ahead, NoneAhead, OnePeriod, Tells, StateExact, CheckExact}
 use Rattle.run.proofs.Checks.{taken-follows}
 use Rattle.run.proofs.Steps.{done-rows}
-use Rattle.run.proofs.FromStart.{bagOf, going}
+use Rattle.run.proofs.FromStart.{bagOf, invariant}
 use Rattle.run.proofs.Periods.{begun, since-puts, since-takes, since-now, since-one}
 
 -- the clock told by what was done is the bag's
@@ -81,14 +82,14 @@ check-number w tag s m e =
     ap (λ (r : Step). r .seen .number) (call-done (checkRows w s m) s m [] _ e) ∙ by-cond (λ (r : Step). r .seen .number ≡ 0) (agrees (takeAll w tag s m)) (λ k. refl) (λ k. refl)
 
 pub state-exact : (w : ℕ) (tag : List ℕ → Entry → List ℕ) → StateExact w tag
-state-exact w tag key run o period since = follows-tells (eventsOf w tag key run) period since tag key (stateAfter w tag key run) (going w tag key run .known o .0)
+state-exact w tag key run o period since = follows-tells (eventsOf w tag key run) period since tag key (stateAfter w tag key run) (invariant w tag key run .follows o .0)
 
 -- the state after the takes of a check follows them
 pub check-follows : (w : ℕ) (tag : List ℕ → Entry → List ℕ) (key : List ℕ) (run : List Lent) (m : List ℕ) → let s = stateAfter w tag key run in s .closed ≡ false
     → Follows tag key (takeAll w tag s m) (follow (empty 0) (eventsOf w tag key run ++ takes w s m))
 check-follows w tag key run m o =
     let s = stateAfter w tag key run in
-    let k = going w tag key run .known o in
+    let k = invariant w tag key run .follows o in
     subst (Follows tag key (takeAll w tag s m)) (sym (foldl-append noted (empty 0) (eventsOf w tag key run) (takes w s m))) (taken-follows w tag key s m (bagOf w tag key run) (k .0) (k .1))
 
 pub check-exact : (w : ℕ) (tag : List ℕ → Entry → List ℕ) → CheckExact w tag
@@ -106,3 +107,9 @@ check-exact w tag key run m d period since = (
 
     h : Tells tag key (takeAll w tag s m) (eventsOf w tag key run ++ takes w s m) period since
     h = follows-tells (eventsOf w tag key run ++ takes w s m) period since tag key (takeAll w tag s m) (check-follows w tag key run m (check-ready w s m e .0))
+
+-- of the entries put in a period no two are alike
+pub alike-now : (w : ℕ) (tag : List ℕ → Entry → List ℕ) (key : List ℕ) (run : List Lent) (period : List Event) → Since (eventsOf w tag key run) period → NoTwoAlike (putIn period)
+alike-now w tag key run period p =
+    let all = eventsOf w tag key run in
+    subst NoTwoAlike (since-puts all period p) (stays-orderly (tag key) (empty 0) all (empty-orderly 0) (invariant w tag key run .lawful) .alike)

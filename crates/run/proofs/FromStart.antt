@@ -18,12 +18,12 @@ use Rattle.state.proofs.Multiset.{hash-none}
 use Rattle.bag.specs.Bag.{Bag, empty, noted, follow}
 use Rattle.bag.specs.Law.{May, Lawful}
 use Rattle.bag.specs.Claims.{Follows}
-use Rattle.bag.proofs.Lists.{by-last}
 use Rattle.bag.proofs.Along.{along-append}
 use Rattle.run.specs.Calls.{Call, Lent, step, after, events}
-use Rattle.run.specs.Demand3.{stateAfter, result, eventsOf}
-use Rattle.run.proofs.Does.{Fit, Did, still, does}
-use Rattle.run.proofs.Steps.{did}
+use Rattle.run.specs.Demand3.{stateAfter, result, eventsOf, Moves}
+use Rattle.run.proofs.Does.{Fit, Does, Did, still, does}
+use Rattle.run.proofs.Steps.{step-did}
+use Rattle.run.proofs.Runs.{by-calls}
 
 -- a start by its one row
 pub by-start : (key : List ℕ) (P : State → Type 0) → (length key ≡ 32 → P (fresh key false)) → ((length key ≡ 32 → ⊥) → P none) → P (startOf key .state)
@@ -48,7 +48,10 @@ module _ (w : ℕ) (tag : List ℕ → Entry → List ℕ) where
       ∙ sym (append-assoc (r .events) (events w tag (r .seen .state) p) (events w tag (after w tag (r .seen .state) p) q))
 
   module _ (key : List ℕ) where
-    -- all that was done, written down
+    -- what a call did, and all that was done, written down
+    abbrev pub doneBy : List Lent → Lent → List Event
+    doneBy run x = result w tag key run x .events
+
     abbrev pub bagOf : List Lent → Bag
     bagOf run = follow (empty 0) (eventsOf w tag key run)
 
@@ -61,47 +64,62 @@ module _ (w : ℕ) (tag : List ℕ → Entry → List ℕ) where
       unfolding after
       state-last = after-append (startOf key .state) run (x ∷ [])
 
-      pub events-last : eventsOf w tag key (run ++ (x ∷ [])) ≡ eventsOf w tag key run ++ result w tag key run x .events
+      pub events-last : eventsOf w tag key (run ++ (x ∷ [])) ≡ eventsOf w tag key run ++ doneBy run x
       unfolding events
-      events-last =
-          events-append (startOf key .state) run (x ∷ []) ∙ ap (λ (es : List Event). eventsOf w tag key run ++ es) (append-nil (result w tag key run x .events))
+      events-last = events-append (startOf key .state) run (x ∷ []) ∙ ap (λ (es : List Event). eventsOf w tag key run ++ es) (append-nil (doneBy run x))
 
-  module _ (key : List ℕ) where
-    -- what is known of a run's state s and of all that was done
-    pub record Going (s : State) (all : List Event) : Type 0 where
+    pub by-run : (P : List Lent → List Event → Type 0) → P [] [] → ((run : List Lent) (x : Lent) → P run (eventsOf w tag key run) → P (run ++ (x ∷ [])) (eventsOf w tag key run ++ doneBy run x))
+        → (run : List Lent) → P run (eventsOf w tag key run)
+    by-run = by-calls doneBy (eventsOf w tag key) events-none events-last
+
+    -- ---- what is known of a run's state s and of all that was done
+
+    pub record Invariant (s : State) (all : List Event) : Type 0 where
       pub lawful : Lawful (tag key) (empty 0) all
-      pub known : s .closed ≡ false → Follows tag key s (follow (empty 0) all) × Fit s (follow (empty 0) all)
+      pub follows : s .closed ≡ false → Follows tag key s (follow (empty 0) all) × Fit s (follow (empty 0) all)
 
-    begins : Going (startOf key .state) []
+    begins : Invariant (startOf key .state) []
     unfolding none fresh empty
     begins =
-        by-start key (λ (s : State). Going s [])
+        by-start key (λ (s : State). Invariant s [])
         (λ e.
         record {
           lawful = tt;
-          known = λ o. (record { key = refl; put = sym (hash-none (tag key)); take = sym (hash-none (tag key)); clock = refl; fault = refl }, record { marked = fresh-unused; sixteen = refl });
+          follows = λ o. (record { key = refl; put = sym (hash-none (tag key)); take = sym (hash-none (tag key)); clock = refl; fault = refl }, record { marked = fresh-unused; sixteen = refl });
         })
-        (λ e. record { lawful = tt; known = λ o. absurd (true≢false o) })
+        (λ e. record { lawful = tt; follows = λ o. absurd (true≢false o) })
 
-    goes-on : (s : State) (m : List ℕ) (all : List Event) (c : Call) (r : Step) → Going s all → Did w tag key s m (follow (empty 0) all) c r → Going (r .seen .state) (all ++ r .events)
-    goes-on s m all c r g (still st so ev ve n) = subst (λ (x : State). Going x (all ++ r .events)) (sym st) (subst (Going s) (sym (ap (λ (es : List Event). all ++ es) ev ∙ append-nil all)) g)
-    goes-on s m all c r g (does o y d) =
+    goes-on : (s : State) (m : List ℕ) (all : List Event) (c : Call) (r : Step) → Invariant s all → Did w tag key s m (follow (empty 0) all) c r → Invariant (r .seen .state) (all ++ r .events)
+    goes-on s m all c r i (still n) =
+        subst (λ (x : State). Invariant x (all ++ r .events)) (sym (n .state)) (subst (Invariant s) (sym (ap (λ (es : List Event). all ++ es) (n .events) ∙ append-nil all)) i)
+    goes-on s m all c r i (does o y d) =
         let same = sym (foldl-append noted (empty 0) all (r .events)) in
         record {
-          lawful = along-append (May (tag key)) (empty 0) all (r .events) (g .lawful) (d .lawful);
-          known = λ k. (subst (Follows tag key (r .seen .state)) same (d .follows k), subst (Fit (r .seen .state)) same (d .fit k));
+          lawful = along-append (May (tag key)) (empty 0) all (r .events) (i .lawful) (d .lawful);
+          follows = λ k. (subst (Follows tag key (r .seen .state)) same (d .follows k), subst (Fit (r .seen .state)) same (d .fit k));
         }
 
-    pub going : (run : List Lent) → Going (stateAfter w tag key run) (eventsOf w tag key run)
-    unfolding after events
-    going =
-        by-last (λ (run : List Lent). Going (stateAfter w tag key run) (eventsOf w tag key run)) begins
-        (λ run x ih.
+    pub invariant : (run : List Lent) → Invariant (stateAfter w tag key run) (eventsOf w tag key run)
+    unfolding after
+    invariant =
+        by-run (λ run all. Invariant (stateAfter w tag key run) all) begins
+        (λ run x i.
         let s = stateAfter w tag key run in
-        subst (λ (t : State). Going t (eventsOf w tag key (run ++ (x ∷ [])))) (sym (state-last key run x))
-        (subst (Going (result w tag key run x .seen .state)) (sym (events-last key run x))
-        (goes-on s (x .bytes) (eventsOf w tag key run) (x .call) (result w tag key run x) ih (did w tag key s (x .bytes) (bagOf key run) (ih .known) (x .call)))))
+        subst (λ (t : State). Invariant t (eventsOf w tag key run ++ doneBy run x)) (sym (state-last run x))
+        (goes-on s (x .bytes) (eventsOf w tag key run) (x .call) (result w tag key run x) i (step-did w tag key s (x .bytes) (bagOf run) (i .follows) (x .call))))
 
     -- each call of a run shows what a call has to
-    pub did-then : (run : List Lent) (x : Lent) → Did w tag key (stateAfter w tag key run) (x .bytes) (bagOf key run) (x .call) (result w tag key run x)
-    did-then run x = did w tag key (stateAfter w tag key run) (x .bytes) (bagOf key run) (going run .known) (x .call)
+    abbrev pub RunDid : List Lent → Lent → Type 0
+    RunDid run x = Did w tag key (stateAfter w tag key run) (x .bytes) (bagOf run) (x .call) (result w tag key run x)
+
+    pub run-did : (run : List Lent) (x : Lent) → RunDid run x
+    run-did run x = step-did w tag key (stateAfter w tag key run) (x .bytes) (bagOf run) (invariant run .follows) (x .call)
+
+    -- one that is not refused, and no look, count or lowest free, gets a state that is not closed
+    pub moves-does : (run : List Lent) (x : Lent) → Moves w tag key run x
+        → (stateAfter w tag key run .closed ≡ false) × Does w tag key (stateAfter w tag key run) (x .bytes) (bagOf run) (x .call) (result w tag key run x)
+    moves-does run x m = go (run-did run x)
+      where
+        go : RunDid run x → (stateAfter w tag key run .closed ≡ false) × Does w tag key (stateAfter w tag key run) (x .bytes) (bagOf run) (x .call) (result w tag key run x)
+        go (still n) = absurd (n .idle (m .0) (m .1))
+        go (does o y d) = (o, d)

@@ -7,8 +7,8 @@ pub mod Runs
 pub mod FromStart
 pub mod Periods
 pub mod Exact
-pub mod Alike
 pub mod Accepted
+pub mod Loads
 pub mod Sound
 pub mod Sized
 pub mod Complete

@@ -1,46 +1,109 @@
--- A run of any kind of calls, by its events: what each call shows of its own events, and of the values and the stores that go with them, holds of the whole
--- run, call by call. Assumes nothing.
-use mathlib.Core.Path.{_≡_, sym, ap, _∙_, subst}
-use mathlib.Core.List.{List, [], _∷_, _++_, foldl-append}
+-- A run of any kind of calls, by its events: what each call shows of its own events, of the values and of the stores that go with them, holds of the whole run,
+-- call by call. Assumes nothing.
+use mathlib.Core.Path.{_≡_, refl, sym, ap, _∙_, subst}
+use mathlib.Core.List.{List, [], _∷_, _++_, append-nil, foldl-append}
 use mathlib.Core.Logic.{_⊎_, inl, inr}
 use Prim.Native.Nat.{ℕ}
 use Rattle.state.specs.Step.{Event}
 use Rattle.bag.specs.Bag.{Bag, empty, noted, follow}
-use Rattle.bag.specs.Law.{Along, TakesHeld, Right}
-use Rattle.bag.proofs.Lists.{by-last}
+use Rattle.bag.specs.Law.{Bare, TakesHeld, Right}
+use Rattle.bag.specs.Claims.{Holds}
+use Rattle.bag.proofs.Lists.{by-last, place-in, no-place, place-stays}
 use Rattle.bag.proofs.Along.{along-append, along-split}
 use Rattle.run.specs.Demand3.{Latest}
 use Rattle.run.proofs.Latest.{latest-here, latest-keeps}
 
--- X is a call with what it is lent; a run is a list of these, the earliest first; `does` are the events of a call after a run
+-- X is a call with what it is lent, and a run is a list of these, the earliest first; `does` are the events of a call after a run
 module _ {X : Type 0} (does : List X → X → List Event) (eventsOf : List X → List Event) (events-none : eventsOf [] ≡ [])
     (events-last : (run : List X) (x : X) → eventsOf (run ++ (x ∷ [])) ≡ eventsOf run ++ does run x) where
   abbrev pub bagAfter : List X → Bag
   bagAfter run = follow (empty 0) (eventsOf run)
 
-  pub bag-last : (run : List X) (x : X) → bagAfter (run ++ (x ∷ [])) ≡ follow (bagAfter run) (does run x)
-  bag-last run x = ap (follow (empty 0)) (events-last run x) ∙ foldl-append noted (empty 0) (eventsOf run) (does run x)
+  -- what holds of no call, and of a run with one call more, holds of every run and all that it did
+  pub by-calls : (P : List X → List Event → Type 0) → P [] [] → ((run : List X) (x : X) → P run (eventsOf run) → P (run ++ (x ∷ [])) (eventsOf run ++ does run x))
+      → (run : List X) → P run (eventsOf run)
+  by-calls P base more =
+      by-last (λ (run : List X). P run (eventsOf run)) (subst (P []) (sym events-none) base) (λ run x h. subst (P (run ++ (x ∷ []))) (sym (events-last run x)) (more run x h))
 
-  -- what holds along a run and the events of one call more holds along the two, and the other way round
-  module _ (P : Bag → Event → Type 0) where
-    pub along-run : (run : List X) (x : X) → Along P (empty 0) (eventsOf run) → Along P (bagAfter run) (does run x) → Along P (empty 0) (eventsOf (run ++ (x ∷ [])))
-    along-run run x h k = subst (Along P (empty 0)) (sym (events-last run x)) (along-append P (empty 0) (eventsOf run) (does run x) h k)
+  -- ---- the call that an event belongs to
 
-    pub run-along : (run : List X) (x : X) → Along P (empty 0) (eventsOf (run ++ (x ∷ []))) → Along P (empty 0) (eventsOf run) × Along P (bagAfter run) (does run x)
-    run-along run x h = along-split P (empty 0) (eventsOf run) (does run x) (subst (Along P (empty 0)) (events-last run x) h)
+  -- an event e, `past` being all that was done before it: its call, and what that call had done before it
+  pub record CallOf (run : List X) (past : List Event) (e : Event) : Type 0 where
+    pub before : List X
+    pub call : X
+    pub later : List X
+    pub place : run ≡ before ++ (call ∷ later)
+    pub first : List Event
+    pub rest : List Event
+    pub upTo : past ≡ eventsOf before ++ first
+    pub within : does before call ≡ first ++ (e ∷ rest)
 
-  -- Values. A call sets some value at an address (Set), namely v (To); Keeps says which value a run keeps there. Where each call takes what is held, and then
-  -- what is kept was set by the call just made or was kept before it and not set again, what is kept is what the latest such call set.
-  module _ (Set : ℕ → List X → X → Type 0) (To : X → ℕ → List ℕ → Type 0) (Keeps : List X → ℕ → List ℕ → Type 0)
-      (kept-none : (a : ℕ) (v : List ℕ) → Keeps [] a v → ⊥)
-      (kept : (run : List X) (x : X) → Right (bagAfter run) (does run x) → (a : ℕ) (v : List ℕ) → Keeps (run ++ (x ∷ [])) a v → (Set a run x × To x a v) ⊎ ((Set a run x → ⊥) × Keeps run a v)) where
-    pub kept-latest : (run : List X) → Right (empty 0) (eventsOf run) → (a : ℕ) (v : List ℕ) → Keeps run a v → (l : Latest (Set a) run) × To (l .call) a v
+  pub call-of : (e : Event) (run : List X) (past rest : List Event) → eventsOf run ≡ past ++ (e ∷ rest) → CallOf run past e
+  call-of e = by-calls (λ run all. (past rest : List Event) → all ≡ past ++ (e ∷ rest) → CallOf run past e) (λ past rest h. absurd (no-place past e rest h)) more
+    where
+      more : (run : List X) (x : X) → ((past rest : List Event) → eventsOf run ≡ past ++ (e ∷ rest) → CallOf run past e)
+          → (past rest : List Event) → eventsOf run ++ does run x ≡ past ++ (e ∷ rest) → CallOf (run ++ (x ∷ [])) past e
+      more run x ih past rest h = go (place-in (eventsOf run) (does run x) past e rest h)
+        where
+          stays : CallOf run past e → CallOf (run ++ (x ∷ [])) past e
+          stays c =
+              record { before = c .before; call = c .call; later = c .later ++ (x ∷ []); place = place-stays run (c .before) (c .call) (c .later) (x ∷ []) (c .place); first = c .first; rest = c .rest; upTo = c .upTo; within = c .within }
+
+          go : ((d : List Event) × (eventsOf run ≡ past ++ (e ∷ d)) × (rest ≡ d ++ does run x)) ⊎ ((d : List Event) × (past ≡ eventsOf run ++ d) × (does run x ≡ d ++ (e ∷ rest)))
+              → CallOf (run ++ (x ∷ [])) past e
+          go (inl (d, f, g)) = stays (ih past d f)
+          go (inr (d, f, g)) = record { before = run; call = x; later = []; place = refl; first = d; rest = rest; upTo = f; within = g }
+
+  -- ---- values
+
+  -- A call sets some value at an address (Set), namely v (To); Keeps says of a run and all that it did which value it keeps there. Where each take takes what
+  -- is held, and where what is kept was set by the call just made, or was kept before it and not set again, it is what the latest such call set.
+  module _ (Set : ℕ → List X → X → Type 0) (To : X → ℕ → List ℕ → Type 0) (Keeps : List X → List Event → ℕ → List ℕ → Type 0)
+      (kept-none : (a : ℕ) (v : List ℕ) → Keeps [] [] a v → ⊥)
+      (kept : (run : List X) (x : X) → Right (bagAfter run) (does run x) → (a : ℕ) (v : List ℕ) → Keeps (run ++ (x ∷ [])) (eventsOf run ++ does run x) a v
+      → (Set a run x × To x a v) ⊎ ((Set a run x → ⊥) × Keeps run (eventsOf run) a v)) where
+    abbrev LatestTo : List X → ℕ → List ℕ → Type 0
+    LatestTo run a v = (l : Latest (Set a) run) × To (l .call) a v
+
+    pub kept-latest : (run : List X) → Right (empty 0) (eventsOf run) → (a : ℕ) (v : List ℕ) → Keeps run (eventsOf run) a v → LatestTo run a v
     unfolding latest-here latest-keeps
-    kept-latest =
-        by-last (λ (run : List X). Right (empty 0) (eventsOf run) → (a : ℕ) (v : List ℕ) → Keeps run a v → (l : Latest (Set a) run) × To (l .call) a v)
-        (λ r a v k. absurd (kept-none a v k)) (λ run x ih r a v k. let p = run-along TakesHeld run x r in go run x a v (ih (p .0) a v) (kept run x (p .1) a v k))
+    kept-latest = by-calls (λ run all. Right (empty 0) all → (a : ℕ) (v : List ℕ) → Keeps run all a v → LatestTo run a v) (λ r a v k. absurd (kept-none a v k))
+        (λ run x ih r a v k. let p = along-split TakesHeld (empty 0) (eventsOf run) (does run x) r in go run x a v (ih (p .0) a v) (kept run x (p .1) a v k))
       where
-        go : (run : List X) (x : X) (a : ℕ) (v : List ℕ) → (Keeps run a v → (l : Latest (Set a) run) × To (l .call) a v)
-            → (Set a run x × To x a v) ⊎ ((Set a run x → ⊥) × Keeps run a v) → (l : Latest (Set a) (run ++ (x ∷ []))) × To (l .call) a v
+        go : (run : List X) (x : X) (a : ℕ) (v : List ℕ) → (Keeps run (eventsOf run) a v → LatestTo run a v)
+            → (Set a run x × To x a v) ⊎ ((Set a run x → ⊥) × Keeps run (eventsOf run) a v) → LatestTo (run ++ (x ∷ [])) a v
         go run x a v ih (inl (s, h)) = (latest-here (Set a) run x s, h)
         go run x a v ih (inr (n, k)) = let l = ih k in (latest-keeps (Set a) run x (l .0) n, l .1)
+
+  -- ---- stores
+
+  -- Of the calls that take or put (Moving), each is lent a store and leaves one. Where each that is lent a store that holds what is held takes what is held, and
+  -- leaves one that holds what is held then, and where those that the latest left are lent again, every take takes what is held.
+  module _ (w : ℕ) (Moving : List X → X → Type 0) (lent : X → List ℕ) (left : List X → X → List ℕ)
+      (moving : (run : List X) (x : X) → Moving run x ⊎ ((Moving run x → ⊥) × (does run x ≡ [])))
+      (honest : (run : List X) (x : X) → Moving run x → Holds w (bagAfter run) (lent x) → Right (bagAfter run) (does run x) × Holds w (follow (bagAfter run) (does run x)) (left run x)) where
+    -- nothing is held, or the store that the latest of them left holds it
+    abbrev pub Left : List X → List Event → Type 0
+    Left run all = Bare (follow (empty 0) all) ⊎ ((l : Latest Moving run) × Holds w (follow (empty 0) all) (left (l .before) (l .call)))
+
+    -- each is lent what is held, where the one before it left that
+    abbrev pub LentAgain : List X → Type 0
+    LentAgain run = (before later : List X) (x : X) → run ≡ before ++ (x ∷ later) → Moving before x → Left before (eventsOf before) → Holds w (bagAfter before) (lent x)
+
+    pub lent-right : (run : List X) → LentAgain run → Right (empty 0) (eventsOf run) × Left run (eventsOf run)
+    unfolding empty latest-here latest-keeps
+    lent-right = by-calls (λ run all. LentAgain run → Right (empty 0) all × Left run all) (λ h. (tt, inl (λ a. refl)))
+        (λ run x ih h. go run x (h run [] x refl) (ih (λ before later y e. h before (later ++ (x ∷ [])) y (place-stays run before y later (x ∷ []) e))) (moving run x))
+      where
+        go : (run : List X) (x : X) → (Moving run x → Left run (eventsOf run) → Holds w (bagAfter run) (lent x)) → Right (empty 0) (eventsOf run) × Left run (eventsOf run)
+            → Moving run x ⊎ ((Moving run x → ⊥) × (does run x ≡ [])) → Right (empty 0) (eventsOf run ++ does run x) × Left (run ++ (x ∷ [])) (eventsOf run ++ does run x)
+        go run x h (r, l) (inl m) =
+            let k = honest run x m (h m l) in
+            (along-append TakesHeld (empty 0) (eventsOf run) (does run x) r (k .0), inr (latest-here Moving run x m, subst (λ (b : Bag). Holds w b (left run x)) (sym (foldl-append noted (empty 0) (eventsOf run) (does run x))) (k .1)))
+        go run x h (r, l) (inr (n, e)) =
+            let same = sym (ap (λ (es : List Event). eventsOf run ++ es) e ∙ append-nil (eventsOf run)) in
+            (subst (Right (empty 0)) same r, subst (Left (run ++ (x ∷ []))) same (keeps l))
+          where
+            keeps : Left run (eventsOf run) → Left (run ++ (x ∷ [])) (eventsOf run)
+            keeps (inl k) = inl k
+            keeps (inr (y, k)) = inr (latest-keeps Moving run x y n, k)

@@ -14,14 +14,13 @@ use Rattle.state.proofs.Messages.{message-injective}
 use Rattle.bag.specs.Bag.{Bag, empty, noted, follow}
 use Rattle.bag.specs.Law.{Along}
 use Rattle.bag.specs.Claims.{InCell, PutFits, Bytes, TakeFits}
-use Rattle.bag.proofs.Lists.{by-last, place-stays}
-use Rattle.bag.proofs.Along.{along-split}
+use Rattle.bag.proofs.Lists.{place-stays}
+use Rattle.bag.proofs.Along.{along-append, along-split}
 use Rattle.bag.proofs.Sizes.{below-bound}
-use Rattle.run.specs.Calls.{Lent, events}
-use Rattle.run.specs.Demand3.{stateAfter, result, eventsOf}
-use Rattle.run.proofs.Does.{Room, Did, still, does}
-use Rattle.run.proofs.Runs.{along-run}
-use Rattle.run.proofs.FromStart.{bagOf, events-none, events-last, did-then}
+use Rattle.run.specs.Calls.{Lent}
+use Rattle.run.specs.Demand3.{eventsOf}
+use Rattle.run.proofs.Does.{Room, still, does}
+use Rattle.run.proofs.FromStart.{doneBy, bagOf, by-run, RunDid, run-did}
 
 pub ceiling-one : (w : ℕ) → 1 ≤ w → 1 ≤ ceiling w
 unfolding ceiling
@@ -41,42 +40,37 @@ abbrev pub AllBytes : List Lent → Type 0
 AllBytes run = (before later : List Lent) (x : Lent) → run ≡ before ++ (x ∷ later) → Bytes (x .bytes)
 
 module _ (w : ℕ) (tag : List ℕ → Entry → List ℕ) (key : List ℕ) where
-  next-along : (P : Bag → Event → Type 0) (run : List Lent) (x : Lent) → Along P (empty 0) (eventsOf w tag key run) → Along P (bagOf w tag key run) (result w tag key run x .events)
-      → Along P (empty 0) (eventsOf w tag key (run ++ (x ∷ [])))
-  next-along P = along-run (λ run x. result w tag key run x .events) (eventsOf w tag key) (events-none w tag key) (events-last w tag key) P
-
+  -- where each put fits, so does the clock
   module _ (one : 1 ≤ w) where
     room : (all : List Event) → Along (PutFits w) (empty 0) all → Room w (follow (empty 0) all)
     unfolding empty
     room all h = let c = ceiling-one w one in (c, clock-fits w c (empty 0) all (omega arith) h)
 
-    puts-all : (run : List Lent) → Along (PutFits w) (empty 0) (eventsOf w tag key run)
-    unfolding events
-    puts-all = by-last (λ (run : List Lent). Along (PutFits w) (empty 0) (eventsOf w tag key run)) tt (λ run x ih. next-along (PutFits w) run x ih (go run x ih (did-then w tag key run x)))
+    puts-fit : (run : List Lent) → Along (PutFits w) (empty 0) (eventsOf w tag key run)
+    puts-fit =
+        by-run w tag key (λ run all. Along (PutFits w) (empty 0) all) tt
+        (λ run x ih. along-append (PutFits w) (empty 0) (eventsOf w tag key run) (doneBy w tag key run x) ih (go run x (room (eventsOf w tag key run) ih) (run-did w tag key run x)))
       where
-        go : (run : List Lent) (x : Lent) → Along (PutFits w) (empty 0) (eventsOf w tag key run) → Did w tag key (stateAfter w tag key run) (x .bytes) (bagOf w tag key run) (x .call) (result w tag key run x)
-            → Along (PutFits w) (bagOf w tag key run) (result w tag key run x .events)
-        go run x ih (still st so ev ve n) = subst (Along (PutFits w) (bagOf w tag key run)) (sym ev) tt
-        go run x ih (does o y d) = d .putFits (room (eventsOf w tag key run) ih)
+        go : (run : List Lent) (x : Lent) → Room w (bagOf w tag key run) → RunDid w tag key run x → Along (PutFits w) (bagOf w tag key run) (doneBy w tag key run x)
+        go run x g (still n) = subst (Along (PutFits w) (bagOf w tag key run)) (sym (n .events)) tt
+        go run x g (does o y d) = d .putFits g
 
     pub run-room : (run : List Lent) → Room w (bagOf w tag key run)
-    run-room run = room (eventsOf w tag key run) (puts-all run)
+    run-room run = room (eventsOf w tag key run) (puts-fit run)
 
     -- each entry put, whatever is lent
     pub put-fits : (run : List Lent) (p q : List Event) (e : Entry) → eventsOf w tag key run ≡ p ++ (put e ∷ q) → InCell w e
-    put-fits run p q e k = along-split (PutFits w) (empty 0) p (put e ∷ q) (subst (Along (PutFits w) (empty 0)) k (puts-all run)) .1 .0
+    put-fits run p q e k = along-split (PutFits w) (empty 0) p (put e ∷ q) (subst (Along (PutFits w) (empty 0)) k (puts-fit run)) .1 .0
 
   -- each entry taken, where every lent store is bytes
-  takes-all : (run : List Lent) → AllBytes run → Along (TakeFits w) (empty 0) (eventsOf w tag key run)
-  unfolding events
-  takes-all =
-      by-last (λ (run : List Lent). AllBytes run → Along (TakeFits w) (empty 0) (eventsOf w tag key run)) (λ h. tt)
+  takes-fit : (run : List Lent) → AllBytes run → Along (TakeFits w) (empty 0) (eventsOf w tag key run)
+  takes-fit =
+      by-run w tag key (λ run all. AllBytes run → Along (TakeFits w) (empty 0) all) (λ h. tt)
       (λ run x ih h.
-      next-along (TakeFits w) run x (ih (λ before later y e. h before (later ++ (x ∷ [])) y (place-stays run before y later (x ∷ []) e))) (go run x (h run [] x refl) (did-then w tag key run x)))
+      along-append (TakeFits w) (empty 0) (eventsOf w tag key run) (doneBy w tag key run x) (ih (λ before later y e. h before (later ++ (x ∷ [])) y (place-stays run before y later (x ∷ []) e))) (go run x (h run [] x refl) (run-did w tag key run x)))
     where
-      go : (run : List Lent) (x : Lent) → Bytes (x .bytes) → Did w tag key (stateAfter w tag key run) (x .bytes) (bagOf w tag key run) (x .call) (result w tag key run x)
-          → Along (TakeFits w) (bagOf w tag key run) (result w tag key run x .events)
-      go run x h (still st so ev ve n) = subst (Along (TakeFits w) (bagOf w tag key run)) (sym ev) tt
+      go : (run : List Lent) (x : Lent) → Bytes (x .bytes) → RunDid w tag key run x → Along (TakeFits w) (bagOf w tag key run) (doneBy w tag key run x)
+      go run x h (still n) = subst (Along (TakeFits w) (bagOf w tag key run)) (sym (n .events)) tt
       go run x h (does o y d) = d .takeFits h
 
   module _ (one : 1 ≤ w) (run : List Lent) (h : AllBytes run) where
@@ -85,7 +79,7 @@ module _ (w : ℕ) (tag : List ℕ → Entry → List ℕ) (key : List ℕ) wher
     entries-sized p q e (inl k) =
         let f = put-fits one run p q e k in
         record { address = omega (arith, f .address); value = f .value; stamp = below-bound w (e .stamp) (f .stamp) }
-    entries-sized p q e (inr k) = along-split (TakeFits w) (empty 0) p (took e ∷ q) (subst (Along (TakeFits w) (empty 0)) k (takes-all run h)) .1 .0
+    entries-sized p q e (inr k) = along-split (TakeFits w) (empty 0) p (took e ∷ q) (subst (Along (TakeFits w) (empty 0)) k (takes-fit run h)) .1 .0
 
     -- so two entries of a run with one message are one entry
     pub message-tells : (p q p′ q′ : List Event) (d e : Entry)

@@ -1,6 +1,6 @@
 -- Each call of a run by its rows: where one of them holds it changes nothing, where none does it is done, and then it shows what a call has to. The one place
 -- that goes through the calls. Assumes nothing.
-use mathlib.Core.Path.{_≡_, refl}
+use mathlib.Core.Path.{_≡_, refl, sym, _∙_}
 use mathlib.Core.Bool.{true, false, cond, false≢true}
 use mathlib.Core.List.{List, []}
 use Prim.Native.Nat.{ℕ, zero, suc}
@@ -15,7 +15,7 @@ use Rattle.state.specs.declared.Verdict.the-variants.{Nothing}
 use Rattle.state.proofs.Ready.{add-ready, use-ready, remove-ready, check-ready}
 use Rattle.bag.specs.Bag.{Bag}
 use Rattle.bag.specs.Claims.{Follows}
-use Rattle.run.specs.Calls.{Call, add, load, store, remove, check, look, count, lowest, moves, step}
+use Rattle.run.specs.Calls.{Call, add, load, store, remove, check, look, count, lowest, moves, idle, step}
 use Rattle.run.proofs.Does.{Fit, Does, Did, still, does}
 use Rattle.run.proofs.Moves.{add-does, load-does, store-does, remove-does}
 use Rattle.run.proofs.Checks.{check-does}
@@ -40,20 +40,23 @@ module _ (w : ℕ) (tag : List ℕ → Entry → List ℕ) (key : List ℕ) (s :
   moving : (c : Call) → moves c ≡ true → (rows : List Row) (o : List ℕ) (x : Step) → (first rows ≡ 0 → s .closed ≡ false)
       → (first rows ≡ 0 → Follows tag key s b → Fit s b → Does w tag key s m b c x) → Did w tag key s m b c (call rows s m o x)
   moving c y rows o x ready h =
-      by-rows s m (Did w tag key s m b c) rows o x (λ e. let k = known (ready e) in does (ready e) y (h e (k .0) (k .1))) (λ n. still refl refl refl refl (λ z. absurd (omega arith)))
+      by-rows s m (Did w tag key s m b c) rows o x (λ e. let k = known (ready e) in does (ready e) y (h e (k .0) (k .1))) (λ n. still (record { state = refl; store = refl; events = refl; verdict = refl; idle = λ z. absurd (omega arith) }))
 
-  pub did : (c : Call) → Did w tag key s m b c (step w tag s m c)
+  unmoved : (c : Call) → moves c ≡ false → Did w tag key s m b c (idle s m)
+  unmoved c n = still (record { state = refl; store = refl; events = refl; verdict = refl; idle = λ z y. false≢true (sym n ∙ y) })
+
+  pub step-did : (c : Call) → Did w tag key s m b c (step w tag s m c)
   unfolding step addOf loadOf storeOf removeOf checkOf
-  did (add a v) =
+  step-did (add a v) =
       moving (add a v) refl (addRows w s m a v) [] (added w tag s m a v) (λ e. add-ready w s m a v e .0 .notClosed) (λ e f t. add-does w tag key s m b f t a v e)
-  did (load a o) =
+  step-did (load a o) =
       moving (load a o) refl (useRows w s m a o) o (loaded w tag s m a) (λ e. use-ready w s m a o e .0 .notClosed) (λ e f t. load-does w tag key s m b f t a o e)
-  did (store a v) =
+  step-did (store a v) =
       moving (store a v) refl (useRows w s m a v) [] (stored w tag s m a v) (λ e. use-ready w s m a v e .0 .notClosed) (λ e f t. store-does w tag key s m b f t a v e)
-  did (remove a) =
+  step-did (remove a) =
       moving (remove a) refl (removeRows w s m a) [] (removed w tag s m a) (λ e. remove-ready w s m a e .notClosed) (λ e f t. remove-does w tag key s m b f t a e)
-  did check =
+  step-did check =
       moving check refl (checkRows w s m) [] (cond (agrees (takeAll w tag s m)) (acceptance w tag s m) (rejection w tag s m)) (λ e. check-ready w s m e .0) (λ e f t. check-does w tag key s m b f t e)
-  did (look a) = still refl refl refl refl (λ z y. absurd (false≢true y))
-  did count = still refl refl refl refl (λ z y. absurd (false≢true y))
-  did lowest = still refl refl refl refl (λ z y. absurd (false≢true y))
+  step-did (look a) = unmoved (look a) refl
+  step-did count = unmoved count refl
+  step-did lowest = unmoved lowest refl

@@ -4,24 +4,23 @@
 -- A run whose cells in use come back as they were left has no collision: at each accepted check of it the entries put and the entries taken are one
 -- multiset.
 --
--- What the cells that are not in use hold is nothing to the second half's condition: a run that meets it meets it still where its last call is lent other
--- bytes there. As each part of a run that begins with its first call is a run, this speaks of every call.
+-- What the cells that are not in use hold is nothing to the second half's condition: where a call that is done is the last of a run that meets it, the call
+-- may be lent any other bytes there. As each part of a run that begins with its first call is a run, this speaks of every call.
 -- Assumes nothing.
 use mathlib.Core.Path.{_≡_}
 use mathlib.Core.Bool.{true}
 use mathlib.Core.List.{List, [], _∷_, _++_}
 use Prim.Native.Nat.{ℕ}
-use lib.ListN.{length}
 use Rattle.state.specs.Marks.{used}
 use Rattle.state.specs.Cells.{Entry, entryAt}
 use Rattle.run.specs.Calls.{Call, Lent, lent}
-use Rattle.run.specs.Demand3.{stateAfter, Collision, Unaltered}
+use Rattle.run.specs.Demand3.{stateAfter, Done, Collision, Unaltered}
 
 abbrev pub HonestNoCollision : ℕ → (List ℕ → Entry → List ℕ) → Type 0
 HonestNoCollision w tag = (key : List ℕ) (run : List Lent) → Unaltered w tag key run → Collision w tag key run → ⊥
 
 abbrev pub UnusedMayChange : ℕ → (List ℕ → Entry → List ℕ) → Type 0
 UnusedMayChange w tag =
-    (key : List ℕ) (run : List Lent) (c : Call) (m n : List ℕ) → length n ≡ length m
+    (key : List ℕ) (run : List Lent) (c : Call) (m n : List ℕ) → Done w tag key run (lent c m)
     → ((a : ℕ) → used (stateAfter w tag key run .marks) a ≡ true → entryAt w n a ≡ entryAt w m a)
     → Unaltered w tag key (run ++ (lent c m ∷ [])) → Unaltered w tag key (run ++ (lent c n ∷ []))

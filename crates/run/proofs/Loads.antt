@@ -1,0 +1,75 @@
+-- Where every take of a run took what was held, what is held at an address has the value last set there, and each load handed out what was held. Assumes nothing.
+use mathlib.Core.Path.{_≡_, refl, sym, ap, _∙_, subst}
+use mathlib.Core.Bool.{true}
+use mathlib.Core.List.{List, [], _∷_, _++_, append-assoc, foldl-append}
+use mathlib.Core.Option.{some}
+use mathlib.Core.Logic.{_⊎_, inl, inr}
+use Prim.Native.Nat.{ℕ}
+use Rattle.state.specs.Cells.{Entry}
+use Rattle.state.specs.Start.{startOf}
+use Rattle.state.specs.Step.{Event}
+use Rattle.bag.specs.Bag.{Bag, empty, noted, follow}
+use Rattle.bag.specs.Law.{TakesHeld, Right}
+use Rattle.bag.proofs.Along.{along-split}
+use Rattle.bag.proofs.Orderly.{none-some}
+use Rattle.run.specs.Calls.{Call, load, Lent, lent, moves, events}
+use Rattle.run.specs.Demand3.{Sets, result, eventsOf, Done, SetAt, LastSet, EachLoad}
+use Rattle.run.proofs.Does.{Kept, still, does}
+use Rattle.run.proofs.Runs.{kept-latest}
+use Rattle.run.proofs.FromStart.{events-append, doneBy, bagOf, events-none, events-last, RunDid, run-did, moves-does}
+
+-- a call that sets a value takes or puts
+sets-moves : (c : Call) (a : ℕ) (v : List ℕ) → Sets c a v → moves c ≡ true
+sets-moves c a v (inl e) = ap moves e
+sets-moves c a v (inr e) = ap moves e
+
+module _ (w : ℕ) (tag : List ℕ → Entry → List ℕ) (key : List ℕ) where
+  -- the value that is held at an address after all that was done
+  abbrev Keeps : List Lent → List Event → ℕ → List ℕ → Type 0
+  Keeps run all a v = (e : Entry) × (follow (empty 0) all .held a ≡ some e) × (e .value ≡ v)
+
+  abbrev SetOrKept : List Lent → Lent → ℕ → List ℕ → Type 0
+  SetOrKept run x a v = (SetAt w tag key a run x × Sets (x .call) a v) ⊎ ((SetAt w tag key a run x → ⊥) × Keeps run (eventsOf w tag key run) a v)
+
+  set-or-kept : (run : List Lent) (x : Lent) → Right (bagOf w tag key run) (doneBy w tag key run x) → (a : ℕ) (v : List ℕ)
+      → Keeps (run ++ (x ∷ [])) (eventsOf w tag key run ++ doneBy w tag key run x) a v → SetOrKept run x a v
+  set-or-kept run x r a v (e, h, q) = go (run-did w tag key run x)
+    where
+      b : Bag
+      b = bagOf w tag key run
+
+      held : follow b (doneBy w tag key run x) .held a ≡ some e
+      held = ap (λ (y : Bag). y .held a) (sym (foldl-append noted (empty 0) (eventsOf w tag key run) (doneBy w tag key run x))) ∙ h
+
+      kept : Done w tag key run x → Kept b (x .call) a e → SetOrKept run x a v
+      kept n (inl s) = let t = subst (Sets (x .call) a) q s in inl ((n, v, t), t)
+      kept n (inr (s, (d, k, f))) = inr ((λ t. s (t .1) (t .2)), (d, k, f ∙ q))
+
+      go : RunDid w tag key run x → SetOrKept run x a v
+      go (still n) = inr ((λ t. n .idle (t .0) (sets-moves (x .call) a (t .1) (t .2))), (e, ap (λ (es : List Event). follow b es .held a) (sym (n .events)) ∙ held, q))
+      go (does o y d) = kept (d .number) (d .kept r a e held)
+
+  held-set : (run : List Lent) → Right (empty 0) (eventsOf w tag key run) → (a : ℕ) (v : List ℕ) → Keeps run (eventsOf w tag key run) a v → LastSet w tag key run a v
+  unfolding empty
+  held-set =
+      kept-latest (doneBy w tag key) (eventsOf w tag key) (events-none w tag key) (events-last w tag key) (SetAt w tag key) (λ x. Sets (x .call)) Keeps (λ a v k. none-some refl (k .1)) set-or-kept
+
+  -- the events of a run, by a place in it
+  place-events : (before later : List Lent) (x : Lent) → (more : List Event) × (eventsOf w tag key (before ++ (x ∷ later)) ≡ (eventsOf w tag key before ++ doneBy w tag key before x) ++ more)
+  unfolding events
+  place-events before later x =
+      let rest = events w tag (result w tag key before x .seen .state) later in
+      (rest, events-append w tag (startOf key .state) before (x ∷ later) ∙ sym (append-assoc (eventsOf w tag key before) (doneBy w tag key before x) rest))
+
+  pub loads-right : (run : List Lent) → Right (empty 0) (eventsOf w tag key run) → EachLoad w tag key run
+  loads-right run r before later a o m place n =
+      held-set before (then .0) a (result w tag key before x .seen .out) (moves-does w tag key before x (n, refl) .1 .answers a o refl (then .1))
+    where
+      x : Lent
+      x = lent (load a o) m
+
+      then : Right (empty 0) (eventsOf w tag key before) × Right (bagOf w tag key before) (doneBy w tag key before x)
+      then =
+          let p = place-events before later x in
+          along-split TakesHeld (empty 0) (eventsOf w tag key before) (doneBy w tag key before x)
+          (along-split TakesHeld (empty 0) (eventsOf w tag key before ++ doneBy w tag key before x) (p .0) (subst (Right (empty 0)) (ap (eventsOf w tag key) place ∙ p .1) r) .0)
