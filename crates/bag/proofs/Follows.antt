@@ -7,12 +7,13 @@ use lib.Dec.{ltb}
 use Rattle.state.specs.Cells.{Entry}
 use Rattle.state.specs.Multiset.{hash, withTag}
 use Rattle.state.specs.Step.{took, put, takeEntry, putEntry}
-use Rattle.state.specs.Check.{opened}
+use Rattle.state.specs.Check.{opened, agrees}
 use Rattle.state.specs.declared.Hash.{Hash}
 use Rattle.state.specs.declared.State.{State}
-use Rattle.state.proofs.Multiset.{hash-none, hash-last}
+use Rattle.state.proofs.Multiset.{equal-sameHash, hash-none, hash-last}
+use Rattle.state.proofs.Guards.{agrees-tells}
 use Rattle.bag.specs.Bag.{Bag, empty, noted, follow}
-use Rattle.bag.specs.Claims.{Follows}
+use Rattle.bag.specs.Claims.{Follows, Verdict}
 
 module _ (tag : List ℕ → Entry → List ℕ) (key : List ℕ) where
   -- a hash with one element more
@@ -39,3 +40,10 @@ module _ (tag : List ℕ → Entry → List ℕ) (key : List ℕ) where
   pub puts-follow : (s : State) (b : Bag) (es : List Entry) → Follows tag key s b → Follows tag key (foldl (putEntry tag) s es) (follow b (map put es))
   puts-follow s b [] f = f
   puts-follow s b (e ∷ es) f = puts-follow (putEntry tag s e) (noted b (put e)) es (put-follows s b e f)
+
+  pub verdict : Verdict tag key
+  unfolding agrees
+  verdict s b f = (
+    (λ h. let k = agrees-tells s h in (sym (f .put) ∙ k .0 ∙ f .take, sym (f .fault) ∙ k .1)),
+    λ h. rw (equal-sameHash (s .put) (s .take) (f .put ∙ h .0 ∙ sym (f .take)), f .fault ∙ h .1),
+  )

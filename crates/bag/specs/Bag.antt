@@ -1,5 +1,6 @@
--- A bag is what a list of events leaves written down: what was put and taken since the last accepted check, what stands put at each address, the clock,
--- and whether a stamp was ahead of it. It knows takes, puts and accepted checks, and no call.
+-- The source, section 5: the log of a bag, which the trusted state's hashes stand for. It is what a list of events leaves written down: what was put and taken
+-- since the last accepted check, what stands put at each address, the clock, and whether a stamp was ahead of it. It knows takes, puts and accepted checks,
+-- and no call.
 -- Assumes nothing.
 use mathlib.Core.Bool.{Bool, false, cond, _||_}
 use mathlib.Core.List.{List, [], _∷_, _++_, foldl}

@@ -1,11 +1,11 @@
--- What holds of every list of events that keeps the law, from any bag that is orderly, as the empty one is. A run of calls needs only to show that its events
--- keep the law.
+-- What holds of every list of events that keeps the law, from any bag that is orderly, as the empty one is: the source's theorem 5.1, with the collision shown
+-- in the place of an assumption on the hash. A run of calls needs only to show that its events keep the law.
 -- Assumes nothing.
 use mathlib.Core.Path.{_≡_}
 use mathlib.Core.Bool.{true, false}
 use mathlib.Core.List.{List, _∷_, _++_}
 use mathlib.Core.Option.{Option, none, some}
-use mathlib.Core.Logic.{_⊎_, _≢_}
+use mathlib.Core.Logic.{_⊎_, _≢_, _↔_}
 use Prim.Native.Nat.{ℕ, _+_, _≤_, _<_}
 use lib.ListN.{length, getD}
 use Rattle.state.specs.Sizes.{addresses, valueSize, ceiling}
@@ -13,6 +13,7 @@ use Rattle.state.specs.Cells.{Entry, entryAt}
 use Rattle.state.specs.Multiset.{hash, Fits}
 use Rattle.state.specs.Counts.{sameEntry, bit, times}
 use Rattle.state.specs.Step.{Event, took, put, accepted}
+use Rattle.state.specs.Check.{agrees}
 use Rattle.state.specs.declared.State.{State}
 use Rattle.bag.specs.Bag.{Bag, follow}
 use Rattle.bag.specs.Law.{Bare, Lawful, Right}
@@ -83,6 +84,10 @@ pub record Follows (tag : List ℕ → Entry → List ℕ) (k : List ℕ) (s : S
   pub take : s .take ≡ hash (tag k) (b .takes)
   pub clock : s .clock ≡ b .clock
   pub fault : s .fault ≡ b .fault
+
+-- so a check that looks at such a state after its takes tells of the bag exactly
+abbrev pub Verdict : (List ℕ → Entry → List ℕ) → List ℕ → Type 0
+Verdict tag k = (s : State) (b : Bag) → Follows tag k s b → (agrees s ≡ true) ↔ ((hash (tag k) (b .puts) ≡ hash (tag k) (b .takes)) × (b .fault ≡ false))
 
 -- ---- the store
 

@@ -12,12 +12,13 @@ use Rattle.state.specs.Sizes.{addresses, storeSize}
 use Rattle.refusal.specs.Refusal.{first}
 use Rattle.state.specs.Marks.{used, inUse}
 use Rattle.state.specs.Cells.{Entry, entryAt}
+use Rattle.state.specs.Multiset.{hash}
 use Rattle.state.specs.Step.{Event, took, put, accepted, shut}
 use Rattle.state.specs.Check.{checkRows, taken, opening, reput, opened, agrees, takes, puts, writeAll, takeAll, putAll, acceptance, rejection}
 use Rattle.state.specs.declared.State.{State}
 use Rattle.state.proofs.Ready.{check-ready}
 use Rattle.state.proofs.Marks.{used-below}
-use Rattle.state.proofs.Guards.{agrees-tells, opens}
+use Rattle.state.proofs.Guards.{opens}
 use Rattle.bag.specs.Bag.{Bag, empty, noted, follow}
 use Rattle.bag.specs.Law.{Along, Bare, May, Lawful, TakesHeld, Right}
 use Rattle.bag.specs.Claims.{Follows, Holds, PutFits, Bytes, TakeFits}
@@ -27,7 +28,7 @@ use Rattle.bag.proofs.Unbroken.{Unbroken, unbroken, takes-plain, puts-plain}
 use Rattle.bag.proofs.Along.{along-append, along-split, along-map}
 use Rattle.bag.proofs.Orderly.{there, none-some}
 use Rattle.bag.proofs.Faults.{calm-before}
-use Rattle.bag.proofs.Follows.{opened-follows, takes-follow, puts-follow}
+use Rattle.bag.proofs.Follows.{opened-follows, takes-follow, puts-follow, verdict}
 use Rattle.bag.proofs.Stores.{takes-hold, puts-hold}
 use Rattle.bag.proofs.Addresses.{among, Distinct, in-use, in-use-distinct}
 use Rattle.bag.proofs.Walks.{takes-lawful, takes-right, right-held, takes-bare, takes-fit, puts-lawful, puts-held, puts-fit}
@@ -110,20 +111,20 @@ module _ (w : ℕ) (tag : List ℕ → Entry → List ℕ) (key : List ℕ) (s :
     unfolding noted
     opens-empty = foldl-append noted b (takes w s m) (accepted ∷ puts w s m)
 
-    calm : follow b (takes w s m) .fault ≡ false
-    calm = sym (taken-follows .fault) ∙ agrees-tells (takeAll w tag s m) agreed .1
+    accepts-exactly : (hash (tag key) (follow b (takes w s m) .puts) ≡ hash (tag key) (follow b (takes w s m) .takes)) × (follow b (takes w s m) .fault ≡ false)
+    accepts-exactly = verdict tag key (takeAll w tag s m) (follow b (takes w s m)) taken-follows .0 agreed
 
     accepted-lawful : Lawful (tag key) b all
     unfolding noted puts reput
     accepted-lawful =
         along-append (May (tag key)) b (takes w s m) (accepted ∷ puts w s m) taken-lawful
-        ((taken-bare, sym (taken-follows .put) ∙ agrees-tells (takeAll w tag s m) agreed .0 ∙ taken-follows .take, calm), puts-lawful w m b cs once exact (tag key))
+        ((taken-bare, accepts-exactly .0, accepts-exactly .1), puts-lawful w m b cs once exact (tag key))
 
     accepted-follows : Follows tag key (putAll w tag s m) (follow b all)
     unfolding takes puts putAll
     accepted-follows =
         subst (Follows tag key (putAll w tag s m)) (sym opens-empty)
-        (puts-follow tag key (opened s) (empty 1) (reput w (s .marks) m) (opened-follows tag key s (f .key) (f .fault ∙ calm-before b (takes w s m) taken-unbroken calm)))
+        (puts-follow tag key (opened s) (empty 1) (reput w (s .marks) m) (opened-follows tag key s (f .key) (f .fault ∙ calm-before b (takes w s m) taken-unbroken (accepts-exactly .1))))
 
     accepted-held : (a : ℕ) → follow b all .held a ≡ cond (used (s .marks) a) (some (opening w m a)) none
     unfolding puts reput

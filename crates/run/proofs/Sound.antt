@@ -1,7 +1,7 @@
 -- Demand 3, its first half. An accepted check shows a collision, or every take before it took what was held, and then each load gave the value last set.
 -- Assumes nothing.
 use mathlib.Core.Path.{_≡_, refl, sym, ap, _∙_, subst}
-use mathlib.Core.List.{List, [], _∷_, _++_, append-assoc}
+use mathlib.Core.List.{List, _∷_, _++_, append-assoc}
 use mathlib.Core.Logic.{_⊎_, inl, inr}
 use Prim.Native.Nat.{ℕ}
 use Rattle.state.specs.Cells.{Entry}
