@@ -25,11 +25,6 @@ pub unsafe extern "C" fn plain_mac(
 }
 
 #[no_mangle]
-pub unsafe extern "C" fn plain_tag(key: &[u8; 32], message: &[u8; 33], out: &mut [u8; 32]) {
-    *out = plain::tag(key, message);
-}
-
-#[no_mangle]
 pub unsafe extern "C" fn plain_checks(
     key: &[u8; 32],
     store: *mut u8,

@@ -132,7 +132,7 @@ pub fn mac(key: &[u8], message: &[u8], out: &mut [u8]) -> u8 {
 }
 
 /// The HMAC of a message of 33 bytes under a key of 32.
-pub fn tag(key: &[u8; 32], message: &[u8; 33]) -> [u8; 32] {
+fn tag(key: &[u8; 32], message: &[u8; 33]) -> [u8; 32] {
     let mut block = [0u8; 64];
     block[..32].copy_from_slice(key);
     hmac(&block, message)

@@ -11,11 +11,11 @@ use Rattle.commands.specs.declared.Ran.{Ran}
 use Rattle.outcomes.specs.Outcomes.{Outcomes}
 
 -- from y, which is seen, the result and what the parameters hold at the end
-again : {Y R L : Type 0} (result : Y → R) (lasts : Y → L) {y x x′ : Y} → x ≡ y → x′ ≡ y → (result x ≡ result x′) × (lasts x ≡ lasts x′)
+pub again : {Y R L : Type 0} (result : Y → R) (lasts : Y → L) {y x x′ : Y} → x ≡ y → x′ ≡ y → (result x ≡ result x′) × (lasts x ≡ lasts x′)
 again result lasts p q = (ap result (p ∙ sym q), ap lasts (p ∙ sym q))
 
 -- a function that writes nothing
-plain : {R L : Type 0} {y r r′ : R} {l : L} → r ≡ y → r′ ≡ y → (r ≡ r′) × (l ≡ l)
+pub plain : {R L : Type 0} {y r r′ : R} {l : L} → r ≡ y → r′ ≡ y → (r ≡ r′) × (l ≡ l)
 plain p q = (p ∙ sym q, refl)
 
 abbrev moved : Seen → Moved
@@ -24,7 +24,7 @@ moved y = record { number = y .number; state = y .state }
 abbrev checked : Seen → Checked
 checked y = record { number = y .number; verdict = y .verdict; state = y .state }
 
-abbrev number : Filled → ℕ
+abbrev pub number : Filled → ℕ
 number y = y .number
 
 abbrev place : Page → ℕ
@@ -87,10 +87,6 @@ outcomes = record {
   say = record { any = λ κs a. tt; one = λ κs a r r′ l l′. again place (λ y. (y .bytes, (tt, (tt, tt)))) };
   command = record { any = λ κs a. tt; one = λ κs a r r′ l l′. again after (λ y. (tt, (y .store, (tt, tt)))) };
   run = record { any = λ κs a. tt; one = λ κs a r r′ l l′. again place (λ y. (tt, (y .bytes, tt))) };
-  speed-digest = record { any = λ κs a. tt; one = λ κs a r r′ l l′. again number (λ y. (tt, (y .out, tt))) };
-  speed-mac = record { any = λ κs a. tt; one = λ κs a r r′ l l′. again number (λ y. (tt, (tt, (y .out, tt)))) };
-  speed-tag = record { any = λ κs a. tt; one = λ κs a r r′ l l′. again (λ y. tt) (λ y. (tt, (tt, (y, tt)))) };
-  speed-checks = record { any = λ κs a. tt; one = λ κs a r r′ l l′ p q. (p .0 ∙ sym (q .0), ap (λ m. (tt, (m, (tt, (tt, (tt, tt)))))) (p .1 ∙ sym (q .1))) };
   look-any = λ κs a. tt;
   look = λ κs a r r′ e e′ p q. (p .0 ∙ sym (q .0), p .1 ∙ sym (q .1));
 }

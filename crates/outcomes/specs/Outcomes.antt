@@ -58,10 +58,6 @@ use Rattle.lines.proofs.parse as Parse
 use Rattle.answers.proofs.say as Say
 use Rattle.commands.proofs.run as Command
 use Rattle.session.proofs.run as Run
-use Rattle.speed.proofs.speed_digest as SpeedDigest
-use Rattle.speed.proofs.speed_mac as SpeedMac
-use Rattle.speed.proofs.speed_tag as SpeedTag
-use Rattle.speed.proofs.speed_checks as SpeedChecks
 use Rattle.store.proofs.look as Look
 
 -- an outcome: the result, and for each parameter what the function leaves where it can write; κs are the lifetimes of what is lent
@@ -119,7 +115,7 @@ pub record Outcomes : Type 1 where
   pub agrees : Tight Agrees.ended Agrees.Reads.Asked Agrees.Reads.Learnt
   pub opened : Tight Opened.ended Opened.Reads.Asked Opened.Reads.Learnt
   pub shut : Tight Shut.ended Shut.Reads.Asked Shut.Reads.Learnt
-  -- the bench's library, and the calls that are measured
+  -- the bench's library
   pub decimal : Tight Decimal.ended Decimal.Reads.Asked Decimal.Reads.Learnt
   pub hex : Tight Hex.ended Hex.Reads.Asked Hex.Reads.Learnt
   pub put : Tight Put.ended Put.Reads.Asked Put.Reads.Learnt
@@ -130,10 +126,6 @@ pub record Outcomes : Type 1 where
   pub say : Tight Say.ended Say.Reads.Asked Say.Reads.Learnt
   pub command : Tight Command.ended Command.Reads.Asked Command.Reads.Learnt
   pub run : Tight Run.ended Run.Reads.Asked Run.Reads.Learnt
-  pub speed-digest : Tight SpeedDigest.ended SpeedDigest.Reads.Asked SpeedDigest.Reads.Learnt
-  pub speed-mac : Tight SpeedMac.ended SpeedMac.Reads.Asked SpeedMac.Reads.Learnt
-  pub speed-tag : Tight SpeedTag.ended SpeedTag.Reads.Asked SpeedTag.Reads.Learnt
-  pub speed-checks : Tight SpeedChecks.ended SpeedChecks.Reads.Asked SpeedChecks.Reads.Learnt
   -- look can write nothing, and hands back a part of the lent store: its bytes, and the place where it lies
   pub look-any : (κs : Lfts 1) (a : Args Look.signature κs) → Look.Reads.Asked κs a
   pub look : (κs : Lfts 1) (a : Args Look.signature κs) (r r′ : Res Look.signature κs) (e e′ : AtExit Look.ended κs)

@@ -1,4 +1,5 @@
 pub mod Tied
+pub mod InC
 pub mod Filters
 pub mod Examples
 pub mod FirstDemand

@@ -1,5 +1,6 @@
 pub mod Library
 pub mod Tied
+pub mod InC
 pub mod Filters
 pub mod Examples
 pub mod FirstDemand

@@ -87,11 +87,11 @@ module _ (w : ℕ) (tag : List ℕ → Entry → List ℕ) where
           let y : suc n ≡ 0 = sym e ∙ sym (ap (λ (r : Step). r .seen .number) r) ∙ h in
           absurd (omega arith)
 
-  look-first : (m : List ℕ) (a : ℕ) → length m ≡ storeSize w → a < addresses → first (lookRows w m a) ≡ 0
+  pub look-first : (m : List ℕ) (a : ℕ) → length m ≡ storeSize w → a < addresses → first (lookRows w m a) ≡ 0
   unfolding lookRows
   look-first m a l h = rw (eq-eqb (length m) (storeSize w) l, lt-ltb a addresses h)
 
-  look-other : (m : List ℕ) (a : ℕ) → (length m ≢ storeSize w) ⊎ (1023 < a) → first (lookRows w m a) ≢ 0
+  pub look-other : (m : List ℕ) (a : ℕ) → (length m ≢ storeSize w) ⊎ (1023 < a) → first (lookRows w m a) ≢ 0
   unfolding addresses
   look-other m a h e = let r = look-ready w m a e in ⊎-elim (λ n. n (r .0)) (λ g. omega (arith, r .1)) h
 

@@ -1,0 +1,4 @@
+pub mod Held
+pub mod Fields
+pub mod Answers
+pub mod Same

@@ -1,0 +1,51 @@
+/* A value added, loaded and checked; and a mirror that goes back to an older cell. docs/CALLING.md, "An example". */
+#include <stdio.h>
+#include <string.h>
+
+#include "pintlecup.h"
+
+static uint8_t mirror[PINTLECUP_STORE_BYTES];
+
+static const char *said(uint8_t answer) {
+    return answer == PINTLECUP_DONE ? "accept" : answer == PINTLECUP_REJECTED ? "reject" : "nothing";
+}
+
+int main(void) {
+    uint8_t key[PINTLECUP_KEY_BYTES]; /* secret: yours comes from a source of randomness */
+    for (size_t i = 0; i < sizeof key; i++)
+        key[i] = (uint8_t)i;
+    pintlecup_state state;
+    printf("start %d\n", pintlecup_start(&state, key, sizeof key));
+
+    pintlecup_filter filter = {PINTLECUP_IPV4, PINTLECUP_PERMIT, 24, 24, 64496, 7, {192, 0, 2}};
+    uint8_t value[PINTLECUP_VALUE_BYTES];
+    printf("pack %d\n", pintlecup_pack(&filter, value, sizeof value));
+
+    size_t address;
+    printf("lowest free %d", pintlecup_lowest_free(&state, &address));
+    printf(", at %zu\n", address);
+    printf("add %d\n", pintlecup_add(&state, mirror, sizeof mirror, address, value, sizeof value));
+    printf("look %d\n", memcmp(pintlecup_look_at(mirror, sizeof mirror, address), value, sizeof value));
+
+    uint8_t out[PINTLECUP_VALUE_BYTES];
+    printf("load %d\n", pintlecup_load(&state, mirror, sizeof mirror, address, out, sizeof out));
+    printf("check %s\n", said(pintlecup_check(&state, mirror, sizeof mirror)));
+
+    pintlecup_filter loaded;
+    printf("unpack %d", pintlecup_unpack(out, sizeof out, &loaded));
+    printf(", AS %u, serial %u\n", (unsigned)loaded.member, (unsigned)loaded.serial);
+
+    /* a newer filter, and a mirror that hands out the cell that it had before */
+    uint8_t older[PINTLECUP_CELL_BYTES];
+    memcpy(older, mirror + PINTLECUP_CELL_BYTES * address, sizeof older);
+    filter.serial = 8;
+    printf("pack %d\n", pintlecup_pack(&filter, value, sizeof value));
+    printf("store %d\n", pintlecup_store(&state, mirror, sizeof mirror, address, value, sizeof value));
+    memcpy(mirror + PINTLECUP_CELL_BYTES * address, older, sizeof older);
+    printf("load %d\n", pintlecup_load(&state, mirror, sizeof mirror, address, out, sizeof out));
+    printf("unpack %d", pintlecup_unpack(out, sizeof out, &loaded));
+    printf(", %s\n", pintlecup_compare(&filter, &loaded) == PINTLECUP_BACK ? "back" : "forward");
+    printf("check %s\n", said(pintlecup_check(&state, mirror, sizeof mirror)));
+    printf("load %d\n", pintlecup_load(&state, mirror, sizeof mirror, address, out, sizeof out));
+    return 0;
+}
