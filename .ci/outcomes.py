@@ -12,7 +12,10 @@ import sys
 from texts import bare
 
 TOP = pathlib.Path(__file__).resolve().parent.parent
+RECORDS = {"Outcomes": "Outcomes : Type 1", "Exports": "Exported : Type 2"}
 TIGHT = ["Tight {0}.ended {0}.Reads.Asked {0}.Reads.Learnt"]
+# of a function that is lent a struct the toolchain writes no `Reads`; that its contract tells something is part of this entry
+LENT = ["TightLent {0}.ended (λ M. {0}.clauses {{M = M}})"]
 LOOK = [
     "(κs : Lfts 1) (a : Args {0}.signature κs) (r r′ : Res {0}.signature κs) (e e′ : AtExit {0}.ended κs)"
     " → {0}.Reads.Learnt κs a r e → {0}.Reads.Learnt κs a r′ e′ → (now r ≡ now r′) × (ptr r ≡ ptr r′)",
@@ -21,7 +24,7 @@ LOOK = [
 
 
 def functions():
-    """The public functions of the libraries by their paths, each with whether its contract tells something."""
+    """The public functions of the libraries by their paths, each with whether its contract tells something (None: it is lent a struct)."""
     found = {}
     for crate in re.findall(r"(?m)^(\w+):", (TOP / "crates.txt").read_text()):
         if not (TOP / "crates" / crate / "src/lib.rt").exists():
@@ -32,32 +35,40 @@ def functions():
             found[crate] = False
         for statement in exported.glob("**/Statement.json"):
             path = statement.parent.relative_to(exported)
-            found["::".join((crate, *path.parts))] = '"ensures":[{' in (proved / "proofs" / path / "Reads.json").read_text()
+            reads = proved / "proofs" / path / "Reads.json"
+            found["::".join((crate, *path.parts))] = '"ensures":[{' in reads.read_text() if reads.exists() else None
     return found
 
 
-def main():
-    text = bare((TOP / "crates/outcomes/specs/Outcomes.antt").read_text())
-    record = text.partition("pub record Outcomes : Type 1 where\n")[2]
+def entries(file):
+    """The names that a file of entries has for the functions, by their places in the proofs, and its record's fields: name and type."""
+    text = bare((TOP / f"crates/outcomes/specs/{file}.antt").read_text())
+    record = text.partition(f"pub record {RECORDS[file]} where\n")[2]
     fields = [(name, " ".join(of.split())) for name, of in re.findall(r"(?m)^  pub (\S+) : (.*(?:\n {3,}.*)*)", record)]
-    names = re.findall(r"(?m)^use Rattle·(\S+) as (\S+)$", text)
+    return re.findall(r"(?m)^use Rattle·(\S+) as (\S+)$", text), fields
+
+
+def main():
+    held = {file: entries(file) for file in RECORDS}
     page = re.sub(r"(?s)<!--.*?-->", "", (TOP / "docs/TIGHTNESS.md").read_text())
-    rows = re.findall(r"(?m)^\| `(\w+(?:::\w+)+)` \| .+ \| `outcomes/specs/Outcomes.antt` `(\S+)` \| (.+) \|$", page)
+    rows = re.findall(r"(?m)^\| `(\w+(?:::\w+)+)` \| .+ \| `outcomes/specs/(\w+).antt` `(\S+)` \| (.+) \|$", page)
     public = functions()
-    wrong = [f"docs/TIGHTNESS.md has a row of {path}, which is no public function" for path, _, _ in rows if path not in public]
+    wrong = [f"docs/TIGHTNESS.md has a row of {path}, which is no public function" for path, *_ in rows if path not in public]
     for path, tells in sorted(public.items()):
         crate, *inner = path.split("::")
+        file = "Exports" if crate == "exports" else "Outcomes"
+        names, fields = held[file]
         short = [short for whole, short in names if whole == ".".join((crate, "proofs", *inner))]
-        forms = [form.format(short[0]) for form in (LOOK if path == "store::look" else TIGHT)] if len(short) == 1 else [""]
-        entries = [[name for name, of in fields if of == form] for form in forms]
-        mine = [row for row in rows if row[0] == path]
-        if not tells:
+        forms = LOOK if path == "store::look" else LENT if tells is None else TIGHT
+        mine = [[name for name, of in fields if len(short) == 1 and of == form.format(short[0])] for form in forms]
+        row = [row for row in rows if row[0] == path]
+        if tells is False:
             wrong.append(f"{path} has no contract, or its library is not proved")
-        if not all(len(entry) == 1 for entry in entries):
+        if not all(len(entry) == 1 for entry in mine):
             wrong.append(f"crates/outcomes has no entry of {path}, or more than one")
-        elif len(mine) != 1 or mine[0][1] != entries[0][0]:
-            wrong.append(f"docs/TIGHTNESS.md has not one row of {path} with its entry {entries[0][0]}")
-        elif len(set(re.findall(r"`\w+!\w+`", mine[0][2]))) < 2:
+        elif len(row) != 1 or row[0][1:3] != (file, mine[0][0]):
+            wrong.append(f"docs/TIGHTNESS.md has not one row of {path} with its entry {mine[0][0]}")
+        elif len(set(re.findall(r"`\w+!\w+`", row[0][3]))) < 2:
             wrong.append(f"docs/TIGHTNESS.md has fewer than two wrong answers of {path}")
     print("\n".join(wrong) if wrong else f"{len(public)} public functions, each with its entry")
     return 1 if wrong or not public else 0
