@@ -2,8 +2,8 @@
  * Pintlecup from C11 and C++11.
  *
  * Up to 1,024 values of 28 bytes in a store that nobody trusts, beside a small trusted state that you hold; a check that accepts only if no load
- * since the start was lied to, or if hashes have collided; SHA-256, HMAC, and the filter record. The rules are in docs/RULES.md, and what is
- * promised in docs/PROMISES.md. Each call here meets a proved contract, which is the definition of the call of the same name there; nothing is
+ * since the start was lied to, or if hashes have collided; SHA-256, HMAC, and the filter record. The rules are in docs/RULES.md of the repository,
+ * and what is promised in docs/PROMISES.md. Each call meets a proved contract, which is the definition of that call in the rules; nothing is
  * allocated, and nothing is global.
  *
  * From top to bottom: your duties, sizes, numbers, types, calls.
@@ -21,7 +21,7 @@
  * - The state and the key are secret, and nobody else can write to them. How long a call takes is not promised to tell nothing of them, and what a
  *   call leaves below the stack is not wiped.
  *
- * All else is refused by a number: any size, any address, any bytes in the store, and any bytes in the structs.
+ * All else is answered. Any size and any address will do, and what is wrong is refused by a number; any bytes in the store and in the structs are legal.
  */
 #ifndef PINTLECUP_H
 #define PINTLECUP_H
