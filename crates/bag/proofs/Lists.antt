@@ -17,15 +17,9 @@ module _ {A : Type 0} where
       → ((e : List A) × (a ≡ c ++ (y ∷ e)) × (d ≡ e ++ b)) ⊎ ((e : List A) × (c ≡ a ++ e) × (b ≡ e ++ (y ∷ d)))
   place-in [] b c y d q = inr (c, refl, q)
   place-in (x ∷ a) b [] y d q = inl (a, ap (λ (z : A). z ∷ a) (head-eq-of-cons-eq q), sym (tail-eq-of-cons-eq q))
-  place-in (x ∷ a) b (z ∷ c) y d q = go (place-in a b c y d (tail-eq-of-cons-eq q))
-    where
-      h : x ≡ z
-      h = head-eq-of-cons-eq q
-
-      go : ((e : List A) × (a ≡ c ++ (y ∷ e)) × (d ≡ e ++ b)) ⊎ ((e : List A) × (c ≡ a ++ e) × (b ≡ e ++ (y ∷ d)))
-          → ((e : List A) × (x ∷ a ≡ z ∷ (c ++ (y ∷ e))) × (d ≡ e ++ b)) ⊎ ((e : List A) × (z ∷ c ≡ x ∷ (a ++ e)) × (b ≡ e ++ (y ∷ d)))
-      go (inl (e, f, g)) = inl (e, cc, g)
-      go (inr (e, f, g)) = inr (e, cc, g)
+  place-in (x ∷ a) b (z ∷ c) y d q =
+      let h : x ≡ z = head-eq-of-cons-eq q in
+      elim (place-in a b c y d (tail-eq-of-cons-eq q)) [ inl (e, f, g) ↦ inl (e, cc, g) | inr (e, f, g) ↦ inr (e, cc, g) ]
 
   -- nothing stands in the empty list
   pub no-place : (c : List A) (y : A) (d : List A) → [] ≡ c ++ (y ∷ d) → ⊥
@@ -35,16 +29,11 @@ module _ {A : Type 0} where
   -- a place in xs ++ (x ∷ []) lies in xs, or is the last
   pub last-place : (xs : List A) (x : A) (c : List A) (y : A) (d : List A) → xs ++ (x ∷ []) ≡ c ++ (y ∷ d)
       → ((e : List A) × (xs ≡ c ++ (y ∷ e)) × (d ≡ e ++ (x ∷ []))) ⊎ ((c ≡ xs) × (y ≡ x))
-  last-place xs x c y d q = go (place-in xs (x ∷ []) c y d q)
+  last-place xs x c y d q = elim (place-in xs (x ∷ []) c y d q) [ inl p ↦ inl p | inr (e, f, g) ↦ inr (here e f g) ]
     where
       here : (e : List A) → c ≡ xs ++ e → x ∷ [] ≡ e ++ (y ∷ d) → (c ≡ xs) × (y ≡ x)
       here [] f g = (f ∙ append-nil xs, sym (head-eq-of-cons-eq g))
       here (z ∷ e) f g = absurd (no-place e y d (tail-eq-of-cons-eq g))
-
-      go : ((e : List A) × (xs ≡ c ++ (y ∷ e)) × (d ≡ e ++ (x ∷ []))) ⊎ ((e : List A) × (c ≡ xs ++ e) × (x ∷ [] ≡ e ++ (y ∷ d)))
-          → ((e : List A) × (xs ≡ c ++ (y ∷ e)) × (d ≡ e ++ (x ∷ []))) ⊎ ((c ≡ xs) × (y ≡ x))
-      go (inl p) = inl p
-      go (inr (e, f, g)) = inr (here e f g)
 
   -- a place stays where more is added at the end
   pub place-stays : (xs c : List A) (y : A) (d z : List A) → xs ≡ c ++ (y ∷ d) → xs ++ z ≡ c ++ (y ∷ (d ++ z))

@@ -4,12 +4,12 @@ use mathlib.Core.Path.{_≡_, refl, sym, ap, _∙_}
 use mathlib.Core.Bool.{Bool, true, false, false≢true}
 use mathlib.Core.List.{List, [], _∷_}
 use mathlib.Core.Option.{Option, none, some}
-use mathlib.Core.Logic.{inl, inr}
+use mathlib.Core.Logic.{_⊎_, inl, inr, _≢_}
 use Prim.Native.Nat.{ℕ, _+_, _≤_, _<_}
 use native.Mathlib.Omega.{arith}
 use lib.Dec.{eqb}
 use lib.ListN.{length, length-append}
-use borrow.Author.Tests.{eqb-true, eq-eqb}
+use borrow.Author.Tests.{eqb-true, eqb-false, eq-eqb}
 use Rattle.state.specs.Cells.{Entry}
 use Rattle.state.specs.Multiset.{hash}
 use Rattle.state.specs.Counts.{sameEntry, bit, times}
@@ -36,6 +36,14 @@ upd-same f a x b e = rw e
 pub upd-other : (f : ℕ → Option Entry) (a : ℕ) (x : Option Entry) (b : ℕ) → eqb b a ≡ false → upd f a x b ≡ f b
 unfolding upd
 upd-other f a x b e = rw e
+
+-- what a changed function has at an address
+pub upd-tells : (f : ℕ → Option Entry) (a : ℕ) (x : Option Entry) (n : ℕ) {o : Option Entry} → upd f a x n ≡ o → ((n ≡ a) × (x ≡ o)) ⊎ ((n ≢ a) × (f n ≡ o))
+upd-tells f a x n {o} k = go (eqb n a) refl
+  where
+    go : (t : Bool) → eqb n a ≡ t → ((n ≡ a) × (x ≡ o)) ⊎ ((n ≢ a) × (f n ≡ o))
+    go true q = inl (eqb-true n a q, sym (upd-same f a x n q) ∙ k)
+    go false q = inr (eqb-false n a q, sym (upd-other f a x n q) ∙ k)
 
 pub upd-here : (f : ℕ → Option Entry) (a : ℕ) (x : Option Entry) → upd f a x a ≡ x
 upd-here f a x = upd-same f a x a (eq-eqb a a refl)
@@ -77,17 +85,13 @@ module _ (tag : Entry → List ℕ) (b : Bag) (o : Orderly b) where
       record {
         later = λ c k. rw (times-last c (b .puts) e) (later c k (sameEntry c e) refl);
         alike = λ c. rw (times-last c (b .puts) e) (alike c (sameEntry c e) refl);
-        placed = λ a c k. placed a c k (eqb a (e .address)) refl;
+        placed = λ a c k. elim (upd-tells (b .held) (e .address) (some e) a k) [ inl (q, z) ↦ let y : e ≡ c = cc in ap (λ (x : Entry). x .address) (sym y) ∙ sym q | inr (q, z) ↦ o .placed a c z ];
         balance = λ c. rw (times-last c (b .puts) e) (balance c (eqb (c .address) (e .address)) refl);
         paired = o .paired;
       }
     where
       clock : b .clock ≤ e .stamp
-      clock = go s
-        where
-          go : Stamped b e → b .clock ≤ e .stamp
-          go (inl h) = omega arith
-          go (inr (n, h)) = omega arith
+      clock = elim s [ inl h ↦ omega arith | inr (n, h) ↦ omega arith ]
 
       later : (c : Entry) → e .stamp < c .stamp → (t : Bool) → sameEntry c e ≡ t → bit (sameEntry c e) + times c (b .puts) ≡ 0
       later c k true q = absurd (omega (arith, same-stamp c e q))
@@ -96,10 +100,6 @@ module _ (tag : Entry → List ℕ) (b : Bag) (o : Orderly b) where
       alike : (c : Entry) (t : Bool) → sameEntry c e ≡ t → bit (sameEntry c e) + times c (b .puts) ≤ 1
       alike c true q = let f = ap (λ (x : Entry). times x (b .puts)) (sameEntry-true c e q) in rw q (omega (arith, f, new e free s))
       alike c false q = rw q (omega (arith, o .alike c))
-
-      placed : (a : ℕ) (c : Entry) → upd (b .held) (e .address) (some e) a ≡ some c → (t : Bool) → eqb a (e .address) ≡ t → c .address ≡ a
-      placed a c k true q = let z : some e ≡ some c = sym (upd-same (b .held) (e .address) (some e) a q) ∙ k in let y : e ≡ c = cc in sym (ap (λ (x : Entry). x .address) y) ∙ sym (eqb-true a (e .address) q)
-      placed a c k false q = o .placed a c (sym (upd-other (b .held) (e .address) (some e) a q) ∙ k)
 
       balance : (c : Entry) (t : Bool) → eqb (c .address) (e .address) ≡ t → bit (sameEntry c e) + times c (b .puts) ≡ times c (b .owed) + heldTimes (upd (b .held) (e .address) (some e) (c .address)) c
       balance c true q =
@@ -113,17 +113,13 @@ module _ (tag : Entry → List ℕ) (b : Bag) (o : Orderly b) where
       record {
         later = o .later;
         alike = o .alike;
-        placed = λ a c k. placed a c k (eqb a (e .address)) refl;
+        placed = λ a c k. elim (upd-tells (b .held) (e .address) none a k) [ inl (q, z) ↦ none-some refl z | inr (q, z) ↦ o .placed a c z ];
         balance = λ c. rw (h, times-last c (b .owed) d) (balance c (eqb (c .address) (e .address)) refl);
         paired = rw (h, length-append (b .owed) (d ∷ []), length-append (b .takes) (e ∷ [])) (omega (arith, o .paired));
       }
     where
       at : d .address ≡ e .address
       at = o .placed (e .address) d h
-
-      placed : (a : ℕ) (c : Entry) → upd (b .held) (e .address) none a ≡ some c → (t : Bool) → eqb a (e .address) ≡ t → c .address ≡ a
-      placed a c k true q = none-some (upd-same (b .held) (e .address) none a q) k
-      placed a c k false q = o .placed a c (sym (upd-other (b .held) (e .address) none a q) ∙ k)
 
       balance : (c : Entry) (t : Bool) → eqb (c .address) (e .address) ≡ t → times c (b .puts) ≡ bit (sameEntry c d) + times c (b .owed) + heldTimes (upd (b .held) (e .address) none (c .address)) c
       balance c true q =

@@ -54,15 +54,12 @@ module _ (tag : Entry → List ℕ) where
     unfolding noted times
     put-stands e s (ahead k) = ahead k
     put-stands e s (right q r) = right q r
-    put-stands e s (bad c k n) = go s
+    put-stands e s (bad c k n) =
+        elim s [ inl g ↦ bad c (omega arith) (rw (times-last c (b .puts) e) (differs (omega arith) (sameEntry c e) refl)) | inr (g, f) ↦ absurd (omega (arith, ap (times c) g)) ]
       where
         differs : b .clock < e .stamp → (t : Bool) → sameEntry c e ≡ t → bit (sameEntry c e) + times c (b .puts) < times c (b .takes)
         differs g true q = absurd (omega (arith, same-stamp c e q))
         differs g false q = rw q (omega arith)
-
-        go : Stamped b e → Stands tag (noted b (put e)) R
-        go (inl g) = bad c (omega arith) (rw (times-last c (b .puts) e) (differs (omega arith) (sameEntry c e) refl))
-        go (inr (g, f)) = absurd (omega (arith, ap (times c) g))
 
   -- where no stamp was ahead some entry was taken more often than put, or all is right
   More : Bag → Type 0
@@ -91,34 +88,23 @@ module _ (tag : Entry → List ℕ) where
   -- where no collision is shown, R is known of the beginning and each take took what was held
   from : (b : Bag) (es : List Event) {R : Type 0} → Orderly b → Stands tag b R → Lawful tag b es → Collides tag b es ⊎ Stands tag (follow b es) (R × Right b es)
   from b [] o s l = inr (stands-map (λ r. (r, tt)) s)
-  from b (e ∷ es) {R} o s (m, l) = go (noted-stands b e o m s) (λ t. from (noted b e) es (noted-orderly tag b o e m) t l)
+  from b (e ∷ es) {R} o s (m, l) =
+      elim (noted-stands b e o m s) [
+        | inl (c, q) ↦ inl (subst (λ (x : Event). Collides tag b (x ∷ es)) (sym q) (collides-here b [] es o (subst (May tag b) q m) c))
+        | inr t ↦ ⊎-map later (stands-map (λ r. (r .0 .0, (r .0 .1, r .1)))) (from (noted b e) es (noted-orderly tag b o e m) t l)
+      ]
     where
-      Then : Type 0
-      Then = Collides tag b (e ∷ es) ⊎ Stands tag (follow (noted b e) es) (R × Right b (e ∷ es))
-
-      later : Collides tag (noted b e) es ⊎ Stands tag (follow (noted b e) es) ((R × TakesHeld b e) × Right (noted b e) es) → Then
-      later (inl c) =
-          inl (record { past = e ∷ c .past; rest = c .rest; place = ap (λ (l : List Event). e ∷ l) (c .place); alike = c .alike; differ = c .differ; equal = c .equal })
-      later (inr t) = inr (stands-map (λ r. (r .0 .0, (r .0 .1, r .1))) t)
-
-      go : (More b × (e ≡ accepted)) ⊎ Stands tag (noted b e) (R × TakesHeld b e)
-          → (Stands tag (noted b e) (R × TakesHeld b e) → Collides tag (noted b e) es ⊎ Stands tag (follow (noted b e) es) ((R × TakesHeld b e) × Right (noted b e) es)) → Then
-      go (inl (c, q)) ih = inl (subst (λ (x : Event). Collides tag b (x ∷ es)) (sym q) (collides-here b [] es o (subst (May tag b) q m) c))
-      go (inr t) ih = later (ih t)
+      later : Collides tag (noted b e) es → Collides tag b (e ∷ es)
+      later c = record { past = e ∷ c .past; rest = c .rest; place = ap (λ (l : List Event). e ∷ l) (c .place); alike = c .alike; differ = c .differ; equal = c .equal }
 
   pub sound : Sound tag
   sound b es o s l = ⊎-map (λ c. c) (stands-map (λ r. r .1)) (from b es o s l)
 
   pub sound-accepted : SoundAccepted tag
-  sound-accepted b past rest o s l = go (sound b past o s (along-split (May tag) b past (accepted ∷ rest) l .0))
-    where
-      m : May tag (follow b past) accepted
-      m = along-split (May tag) b past (accepted ∷ rest) l .1 .0
-
-      orderly : Orderly (follow b past)
-      orderly = stays-orderly tag b past o (along-split (May tag) b past (accepted ∷ rest) l .0)
-
-      go : Collides tag b past ⊎ Stands tag (follow b past) (Right b past) → Collides tag b (past ++ (accepted ∷ rest)) ⊎ Right b past
-      go (inl c) =
-          inl (record { past = c .past; rest = c .rest ++ (accepted ∷ rest); place = place-stays past (c .past) accepted (c .rest) (accepted ∷ rest) (c .place); alike = c .alike; differ = c .differ; equal = c .equal })
-      go (inr t) = ⊎-map (collides-here b past rest orderly m) (λ r. r) (calm-tells (follow b past) (m .2) t)
+  sound-accepted b past rest o s l =
+      let p = along-split (May tag) b past (accepted ∷ rest) l in
+      let m = p .1 .0 in
+      elim (sound b past o s (p .0)) [
+        | inl c ↦ inl (record { past = c .past; rest = c .rest ++ (accepted ∷ rest); place = place-stays past (c .past) accepted (c .rest) (accepted ∷ rest) (c .place); alike = c .alike; differ = c .differ; equal = c .equal })
+        | inr t ↦ ⊎-map (collides-here b past rest (stays-orderly tag b past o (p .0)) m) (λ r. r) (calm-tells (follow b past) (m .2) t)
+      ]

@@ -1,9 +1,10 @@
 -- A store holds what is held still after a take, after a put that is written to its cell, and after anything is written to a cell where nothing is held: cells
 -- do not meet. Assumes nothing.
-use mathlib.Core.Path.{_≡_, refl, sym, ap, _∙_}
+use mathlib.Core.Path.{_≡_, refl, ap, _∙_}
 use mathlib.Core.Bool.{Bool, true, false}
 use mathlib.Core.List.{List, [], _∷_, map, foldl}
 use mathlib.Core.Option.{none, some}
+use mathlib.Core.Logic.{inl, inr}
 use Prim.Native.Nat.{ℕ, _<_}
 use lib.Dec.{eqb}
 use lib.ListN.{length}
@@ -16,30 +17,24 @@ use Rattle.bag.specs.Bag.{Bag, noted, follow}
 use Rattle.bag.specs.Law.{Along}
 use Rattle.bag.specs.Claims.{Holds, InCell, PutFits}
 use Rattle.bag.proofs.Sizes.{below-bound}
-use Rattle.bag.proofs.Orderly.{none-some, upd-same, upd-other}
+use Rattle.bag.proofs.Orderly.{none-some, upd-tells}
 
 module _ (w : ℕ) (b : Bag) (m : List ℕ) (h : Holds w b m) where
   pub take-holds : (e : Entry) → Holds w (noted b (took e)) m
   unfolding noted
-  take-holds e a d k = go (eqb a (e .address)) refl
-    where
-      go : (t : Bool) → eqb a (e .address) ≡ t → entryAt w m a ≡ d
-      go true q = none-some (upd-same (b .held) (e .address) none a q) k
-      go false q = h a d (sym (upd-other (b .held) (e .address) none a q) ∙ k)
+  take-holds e a d k = elim (upd-tells (b .held) (e .address) none a k) [ inl (q, z) ↦ none-some refl z | inr (q, z) ↦ h a d z ]
 
   module _ (size : length m ≡ storeSize w) where
     pub put-holds : (e : Entry) → InCell w e → Holds w (noted b (put e)) (writeEntry w m e)
     unfolding noted writeEntry
-    put-holds e i a d k = go (eqb a (e .address)) refl
-      where
-        go : (t : Bool) → eqb a (e .address) ≡ t → entryAt w (writeCell w m (e .address) (e .value) (e .stamp)) a ≡ d
-        go true q =
-            let z : some e ≡ some d = sym (upd-same (b .held) (e .address) (some e) a q) ∙ k in
-            let y : e ≡ d = cc in
-            ap (entryAt w (writeCell w m (e .address) (e .value) (e .stamp))) (eqb-true a (e .address) q)
-            ∙ entry-written w m (e .address) (e .value) (e .stamp) (i .address) size (i .value) (below-bound w (e .stamp) (i .stamp)) ∙ y
-        go false q =
-            entry-other w m (e .address) (e .value) (e .stamp) (i .address) size (i .value) a (eqb-false a (e .address) q) ∙ h a d (sym (upd-other (b .held) (e .address) (some e) a q) ∙ k)
+    put-holds e i a d k =
+        let f = writeCell w m (e .address) (e .value) (e .stamp) in
+        elim (upd-tells (b .held) (e .address) (some e) a k) [
+          | inl (q, z) ↦
+              let y : e ≡ d = cc in
+              ap (entryAt w f) q ∙ entry-written w m (e .address) (e .value) (e .stamp) (i .address) size (i .value) (below-bound w (e .stamp) (i .stamp)) ∙ y
+          | inr (q, z) ↦ entry-other w m (e .address) (e .value) (e .stamp) (i .address) size (i .value) a q ∙ h a d z
+        ]
 
     pub free-holds : (a : ℕ) → b .held a ≡ none → a < addresses → (v : List ℕ) (t : ℕ) → length v ≡ valueSize → Holds w b (writeCell w m a v t)
     free-holds a free k v t l c d q = go (eqb c a) refl

@@ -16,7 +16,7 @@ use Rattle.run.specs.Demand3.{stateAfter, result, eventsOf, Accepts}
 use Rattle.run.proofs.Does.{still, does}
 use Rattle.run.proofs.Steps.{by-rows}
 use Rattle.run.proofs.Runs.{CallOf, call-of}
-use Rattle.run.proofs.FromStart.{events-append, doneBy, events-none, events-last, RunDid, run-did}
+use Rattle.run.proofs.FromStart.{events-append, doneBy, events-none, events-last, run-did}
 
 -- what a check that accepts gives
 pub accepts-gives : (w : ℕ) (tag : List ℕ → Entry → List ℕ) (s : State) (m : List ℕ) → step w tag s m check .seen .verdict ≡ Accept → step w tag s m check ≡ acceptance w tag s m
@@ -37,23 +37,23 @@ module _ (w : ℕ) (tag : List ℕ → Entry → List ℕ) (key : List ℕ) wher
     pub upTo : past ≡ eventsOf w tag key before ++ takes w (stateAfter w tag key before) bytes
 
   pub accepted-check : (run : List Lent) (past rest : List Event) → eventsOf w tag key run ≡ past ++ (accepted ∷ rest) → AcceptedCheck run past
-  accepted-check run past rest e = go (run-did w tag key (k .before) (k .call))
+  accepted-check run past rest e =
+      elim (run-did w tag key (k .before) (k .call)) [
+        | still n ↦ absurd (no-place (k .first) accepted (k .rest) (sym (n .events) ∙ k .within))
+        | does o y d ↦
+            let h = d .accepts (k .first) (k .rest) (k .within) in
+            record {
+              before = k .before;
+              later = k .later;
+              bytes = k .call .bytes;
+              place = k .place ∙ ap (λ (c : Call). k .before ++ (lent c (k .call .bytes) ∷ k .later)) (h .0);
+              accepts = ap (λ (c : Call). result w tag key (k .before) (lent c (k .call .bytes)) .seen .verdict) (sym (h .0)) ∙ h .1;
+              upTo = k .upTo ∙ ap (λ (es : List Event). eventsOf w tag key (k .before) ++ es) (h .2);
+            }
+      ]
     where
       k : CallOf (doneBy w tag key) (eventsOf w tag key) (events-none w tag key) (events-last w tag key) run past accepted
       k = call-of (doneBy w tag key) (eventsOf w tag key) (events-none w tag key) (events-last w tag key) accepted run past rest e
-
-      go : RunDid w tag key (k .before) (k .call) → AcceptedCheck run past
-      go (still n) = absurd (no-place (k .first) accepted (k .rest) (sym (n .events) ∙ k .within))
-      go (does o y d) =
-          let h = d .accepts (k .first) (k .rest) (k .within) in
-          record {
-            before = k .before;
-            later = k .later;
-            bytes = k .call .bytes;
-            place = k .place ∙ ap (λ (c : Call). k .before ++ (lent c (k .call .bytes) ∷ k .later)) (h .0);
-            accepts = ap (λ (c : Call). result w tag key (k .before) (lent c (k .call .bytes)) .seen .verdict) (sym (h .0)) ∙ h .1;
-            upTo = k .upTo ∙ ap (λ (es : List Event). eventsOf w tag key (k .before) ++ es) (h .2);
-          }
 
   pub check-accepted : (run : List Lent) (past : List Event) → AcceptedCheck run past → (rest : List Event) × (eventsOf w tag key run ≡ past ++ (accepted ∷ rest))
   unfolding events acceptance

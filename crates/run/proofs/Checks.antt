@@ -4,7 +4,7 @@ use mathlib.Core.Path.{_≡_, refl, sym, ap, _∙_, subst}
 use mathlib.Core.Bool.{Bool, true, false, cond, true≢false}
 use mathlib.Core.List.{List, [], _∷_, _++_, foldl-append, append-nil, tail-eq-of-cons-eq}
 use mathlib.Core.Option.{none, some}
-use mathlib.Core.Logic.{_⊎_, inl, inr}
+use mathlib.Core.Logic.{inl, inr}
 use Prim.Native.Nat.{ℕ, _<_}
 use native.Mathlib.Omega.{arith}
 use lib.ListN.{length}
@@ -164,15 +164,12 @@ module _ (w : ℕ) (tag : List ℕ → Entry → List ℕ) (key : List ℕ) (s :
 
     accepted-place : (p q : List Event) → all ≡ p ++ (accepted ∷ q) → p ≡ takes w s m
     unfolding puts
-    accepted-place p q e = go (place-in (takes w s m) (accepted ∷ puts w s m) p accepted q e)
+    accepted-place p q e =
+        elim (place-in (takes w s m) (accepted ∷ puts w s m) p accepted q e) [ inl (d, g, h) ↦ absurd (taken-unbroken p d g) | inr (d, g, h) ↦ here d g h ]
       where
         here : (d : List Event) → p ≡ takes w s m ++ d → accepted ∷ puts w s m ≡ d ++ (accepted ∷ q) → p ≡ takes w s m
         here [] g h = g ∙ append-nil (takes w s m)
         here (x ∷ d) g h = absurd (unbroken (puts w s m) (puts-plain (reput w (s .marks) m)) d q (tail-eq-of-cons-eq h))
-
-        go : ((d : List Event) × (takes w s m ≡ p ++ (accepted ∷ d)) × (q ≡ d ++ (accepted ∷ puts w s m))) ⊎ ((d : List Event) × (p ≡ takes w s m ++ d) × (accepted ∷ puts w s m ≡ d ++ (accepted ∷ q))) → p ≡ takes w s m
-        go (inl (d, g, h)) = absurd (taken-unbroken p d g)
-        go (inr (d, g, h)) = here d g h
 
     acceptance-does : Does w tag key s m b check (acceptance w tag s m)
     unfolding acceptance takes puts noted

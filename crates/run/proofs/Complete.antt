@@ -25,7 +25,7 @@ use Rattle.run.specs.Demand3.{stateAfter, result, eventsOf, Done, Accept
 use Rattle.run.proofs.Does.{still, does}
 use Rattle.run.proofs.Checks.{taken-lawful, taken-right, taken-bare}
 use Rattle.run.proofs.Runs.{Left, lent-right}
-use Rattle.run.proofs.FromStart.{doneBy, bagOf, events-none, events-last, invariant, RunDid, run-did, moves-does}
+use Rattle.run.proofs.FromStart.{doneBy, bagOf, events-none, events-last, invariant, run-did, moves-does}
 use Rattle.run.proofs.Exact.{check-done, check-follows}
 use Rattle.run.proofs.Sized.{run-room}
 
@@ -34,11 +34,7 @@ module _ (w : ℕ) (one : 1 ≤ w) (tag : List ℕ → Entry → List ℕ) (key 
   leaves run x = result w tag key run x .seen .store
 
   moving : (run : List Lent) (x : Lent) → Moves w tag key run x ⊎ ((Moves w tag key run x → ⊥) × (doneBy w tag key run x ≡ []))
-  moving run x = go (run-did w tag key run x)
-    where
-      go : RunDid w tag key run x → Moves w tag key run x ⊎ ((Moves w tag key run x → ⊥) × (doneBy w tag key run x ≡ []))
-      go (still n) = inr ((λ m. n .idle (m .0) (m .1)), n .events)
-      go (does o y d) = inl (d .number, y)
+  moving run x = elim (run-did w tag key run x) [ still n ↦ inr ((λ m. n .idle (m .0) (m .1)), n .events) | does o y d ↦ inl (d .number, y) ]
 
   moves-honest : (run : List Lent) (x : Lent) → Moves w tag key run x → Holds w (bagOf w tag key run) (x .bytes)
       → Right (bagOf w tag key run) (doneBy w tag key run x) × Holds w (follow (bagOf w tag key run) (doneBy w tag key run x)) (leaves run x)

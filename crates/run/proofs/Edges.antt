@@ -3,7 +3,7 @@
 use mathlib.Core.Path.{_≡_, refl, sym, ap, ap₂, _∙_}
 use mathlib.Core.Bool.{false, false≢true}
 use mathlib.Core.List.{List, [], _∷_, _++_, append-assoc}
-use mathlib.Core.Logic.{_⊎_, inl, inr}
+use mathlib.Core.Logic.{inl, inr}
 use Prim.Native.Nat.{ℕ, _≤_}
 use lib.ListN.{length}
 use borrow.Author.Tests.{eq-eqb}
@@ -20,7 +20,7 @@ use Rattle.run.specs.Calls.{Call, load, check, Lent, lent, after, events
 use Rattle.run.specs.Demand3.{Latest, Sets, stateAfter, result, eventsOf, Done, Accepts, LastSet, EachLoad, LastAccepts, Moves, Unaltered}
 use Rattle.run.proofs.Does.{Still, still, does}
 use Rattle.run.proofs.Latest.{latest-one}
-use Rattle.run.proofs.FromStart.{bagOf, state-last, events-last, RunDid, run-did}
+use Rattle.run.proofs.FromStart.{bagOf, state-last, events-last, run-did}
 use Rattle.run.proofs.Exact.{check-number}
 use Rattle.run.proofs.Complete.{complete-at}
 
@@ -46,11 +46,7 @@ module _ (w : ℕ) (tag : List ℕ → Entry → List ℕ) (key : List ℕ) wher
 
   -- a call that is refused, or gets a closed state, or is idle, changes nothing
   nothing-done : (run : List Lent) (x : Lent) → (stateAfter w tag key run .closed ≡ false → Moves w tag key run x → ⊥) → StaysStill run x
-  nothing-done run x n = go (run-did w tag key run x)
-    where
-      go : RunDid w tag key run x → StaysStill run x
-      go (still k) = k
-      go (does o y d) = absurd (n o (d .number, y))
+  nothing-done run x n = elim (run-did w tag key run x) [ still k ↦ k | does o y d ↦ absurd (n o (d .number, y)) ]
 
   -- where every call is refused the state is the start's, and no load is answered
   pub refusing : (run : List Lent) → ((before later : List Lent) (x : Lent) → run ≡ before ++ (x ∷ later) → Done w tag key before x → ⊥)
@@ -91,11 +87,8 @@ module _ (w : ℕ) (tag : List ℕ → Entry → List ℕ) (key : List ℕ) wher
       complete-at w one tag key [] m (λ before later x e d l a u. absurd (never before later x e l)) (check-number w tag (startOf key .state) m (rw (c, eq-eqb (length m) (storeSize w) k)))
     where
       never : (before later : List Lent) (x : Lent) → lent check m ∷ [] ≡ before ++ (x ∷ later) → Latest (Moves w tag key) before → ⊥
-      never before later x e l = go (last-place [] (lent check m) before x later e)
-        where
-          go : ((r : List Lent) × ([] ≡ before ++ (x ∷ r)) × (later ≡ r ++ (lent check m ∷ []))) ⊎ ((before ≡ []) × (x ≡ lent check m)) → ⊥
-          go (inl (r, f, g)) = no-place before x r f
-          go (inr (f, g)) = no-place (l .before) (l .call) (l .later) (sym f ∙ l .place)
+      never before later x e l =
+          elim (last-place [] (lent check m) before x later e) [ inl (r, f, g) ↦ no-place before x r f | inr (f, g) ↦ no-place (l .before) (l .call) (l .later) (sym f ∙ l .place) ]
 
   -- ---- a store that hands back what was left meets the second half's condition
 

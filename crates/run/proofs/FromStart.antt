@@ -109,17 +109,10 @@ module _ (w : ℕ) (tag : List ℕ → Entry → List ℕ) where
         (goes-on s (x .bytes) (eventsOf w tag key run) (x .call) (result w tag key run x) i (step-did w tag key s (x .bytes) (bagOf run) (i .follows) (x .call))))
 
     -- each call of a run shows what a call has to
-    abbrev pub RunDid : List Lent → Lent → Type 0
-    RunDid run x = Did w tag key (stateAfter w tag key run) (x .bytes) (bagOf run) (x .call) (result w tag key run x)
-
-    pub run-did : (run : List Lent) (x : Lent) → RunDid run x
+    pub run-did : (run : List Lent) (x : Lent) → Did w tag key (stateAfter w tag key run) (x .bytes) (bagOf run) (x .call) (result w tag key run x)
     run-did run x = step-did w tag key (stateAfter w tag key run) (x .bytes) (bagOf run) (invariant run .follows) (x .call)
 
     -- one that is not refused, and no look, count or lowest free, gets a state that is not closed
     pub moves-does : (run : List Lent) (x : Lent) → Moves w tag key run x
         → (stateAfter w tag key run .closed ≡ false) × Does w tag key (stateAfter w tag key run) (x .bytes) (bagOf run) (x .call) (result w tag key run x)
-    moves-does run x m = go (run-did run x)
-      where
-        go : RunDid run x → (stateAfter w tag key run .closed ≡ false) × Does w tag key (stateAfter w tag key run) (x .bytes) (bagOf run) (x .call) (result w tag key run x)
-        go (still n) = absurd (n .idle (m .0) (m .1))
-        go (does o y d) = (o, d)
+    moves-does run x m = elim (run-did run x) [ still n ↦ absurd (n .idle (m .0) (m .1)) | does o y d ↦ (o, d) ]

@@ -13,10 +13,10 @@ use Rattle.bag.specs.Law.{TakesHeld, Right}
 use Rattle.bag.proofs.Along.{along-split}
 use Rattle.bag.proofs.Orderly.{none-some}
 use Rattle.run.specs.Calls.{Call, load, Lent, lent, moves, events}
-use Rattle.run.specs.Demand3.{Sets, result, eventsOf, Done, SetAt, LastSet, EachLoad}
-use Rattle.run.proofs.Does.{Kept, still, does}
+use Rattle.run.specs.Demand3.{Sets, result, eventsOf, SetAt, LastSet, EachLoad}
+use Rattle.run.proofs.Does.{still, does}
 use Rattle.run.proofs.Runs.{kept-latest}
-use Rattle.run.proofs.FromStart.{events-append, doneBy, bagOf, events-none, events-last, RunDid, run-did, moves-does}
+use Rattle.run.proofs.FromStart.{events-append, doneBy, bagOf, events-none, events-last, run-did, moves-does}
 
 -- a call that sets a value takes or puts
 sets-moves : (c : Call) (a : ℕ) (v : List ℕ) → Sets c a v → moves c ≡ true
@@ -28,26 +28,21 @@ module _ (w : ℕ) (tag : List ℕ → Entry → List ℕ) (key : List ℕ) wher
   abbrev Keeps : List Lent → List Event → ℕ → List ℕ → Type 0
   Keeps run all a v = (e : Entry) × (follow (empty 0) all .held a ≡ some e) × (e .value ≡ v)
 
-  abbrev SetOrKept : List Lent → Lent → ℕ → List ℕ → Type 0
-  SetOrKept run x a v = (SetAt w tag key a run x × Sets (x .call) a v) ⊎ ((SetAt w tag key a run x → ⊥) × Keeps run (eventsOf w tag key run) a v)
-
   set-or-kept : (run : List Lent) (x : Lent) → Right (bagOf w tag key run) (doneBy w tag key run x) → (a : ℕ) (v : List ℕ)
-      → Keeps (run ++ (x ∷ [])) (eventsOf w tag key run ++ doneBy w tag key run x) a v → SetOrKept run x a v
-  set-or-kept run x r a v (e, h, q) = go (run-did w tag key run x)
+      → Keeps (run ++ (x ∷ [])) (eventsOf w tag key run ++ doneBy w tag key run x) a v
+      → (SetAt w tag key a run x × Sets (x .call) a v) ⊎ ((SetAt w tag key a run x → ⊥) × Keeps run (eventsOf w tag key run) a v)
+  set-or-kept run x r a v (e, h, q) =
+      elim (run-did w tag key run x) [
+        | still n ↦ inr ((λ t. n .idle (t .0) (sets-moves (x .call) a (t .1) (t .2))), (e, ap (λ (es : List Event). follow (bagOf w tag key run) es .held a) (sym (n .events)) ∙ held, q))
+        | does o y d ↦
+            elim (d .kept r a e held) [
+              | inl s ↦ let t = subst (Sets (x .call) a) q s in inl ((d .number, v, t), t)
+              | inr (s, (c, k, f)) ↦ inr ((λ t. s (t .1) (t .2)), (c, k, f ∙ q))
+            ]
+      ]
     where
-      b : Bag
-      b = bagOf w tag key run
-
-      held : follow b (doneBy w tag key run x) .held a ≡ some e
+      held : follow (bagOf w tag key run) (doneBy w tag key run x) .held a ≡ some e
       held = ap (λ (y : Bag). y .held a) (sym (foldl-append noted (empty 0) (eventsOf w tag key run) (doneBy w tag key run x))) ∙ h
-
-      kept : Done w tag key run x → Kept b (x .call) a e → SetOrKept run x a v
-      kept n (inl s) = let t = subst (Sets (x .call) a) q s in inl ((n, v, t), t)
-      kept n (inr (s, (d, k, f))) = inr ((λ t. s (t .1) (t .2)), (d, k, f ∙ q))
-
-      go : RunDid w tag key run x → SetOrKept run x a v
-      go (still n) = inr ((λ t. n .idle (t .0) (sets-moves (x .call) a (t .1) (t .2))), (e, ap (λ (es : List Event). follow b es .held a) (sym (n .events)) ∙ held, q))
-      go (does o y d) = kept (d .number) (d .kept r a e held)
 
   held-set : (run : List Lent) → Right (empty 0) (eventsOf w tag key run) → (a : ℕ) (v : List ℕ) → Keeps run (eventsOf w tag key run) a v → LastSet w tag key run a v
   unfolding empty

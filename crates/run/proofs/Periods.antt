@@ -58,11 +58,7 @@ module _ (all : List Event) where
   )
     where
       whole : (p q : List Event) → period ++ (e ∷ []) ≡ p ++ (accepted ∷ q) → ⊥
-      whole p q k = go (last-place period e p accepted q k)
-        where
-          go : ((r : List Event) × (period ≡ p ++ (accepted ∷ r)) × (q ≡ r ++ (e ∷ []))) ⊎ ((p ≡ period) × (accepted ≡ e)) → ⊥
-          go (inl (r, f, g)) = s .unbroken p r f
-          go (inr (f, g)) = true≢false (ap isAccepted g ∙ n)
+      whole p q k = elim (last-place period e p accepted q k) [ inl (r, f, g) ↦ s .unbroken p r f | inr (f, g) ↦ true≢false (ap isAccepted g ∙ n) ]
 
   more : (e : Event) → (period : List Event) × Since all period → (period : List Event) × Since (all ++ (e ∷ [])) period
   more (took e) h = grows (took e) refl h
@@ -90,12 +86,8 @@ module _ (all period other : List Event) (s : Since all period) (t : Since all o
       here [] e = sym (tail-eq-of-cons-eq e)
       here (y ∷ x) e = absurd (s .unbroken x other (tail-eq-of-cons-eq e))
 
-      both : (c d : List Event) → ((x : List Event) × (c ≡ d ++ (accepted ∷ x)) × (other ≡ x ++ (accepted ∷ period))) ⊎ ((x : List Event) × (d ≡ c ++ x) × (accepted ∷ period ≡ x ++ (accepted ∷ other))) → other ≡ period
-      both c d (inl (x, f, g)) = absurd (t .unbroken x period g)
-      both c d (inr (x, f, g)) = here x g
-
       go : (all ≡ period) ⊎ ((old : List Event) × (all ≡ old ++ (accepted ∷ period))) → (all ≡ other) ⊎ ((old : List Event) × (all ≡ old ++ (accepted ∷ other))) → other ≡ period
       go (inl e) (inl f) = sym f ∙ e
       go (inl e) (inr (d, f)) = absurd (s .unbroken d other (sym e ∙ f))
       go (inr (c, e)) (inl f) = absurd (t .unbroken c period (sym f ∙ e))
-      go (inr (c, e)) (inr (d, f)) = both c d (place-in c (accepted ∷ period) d accepted other (sym e ∙ f))
+      go (inr (c, e)) (inr (d, f)) = elim (place-in c (accepted ∷ period) d accepted other (sym e ∙ f)) [ inl (x, p, q) ↦ absurd (t .unbroken x period q) | inr (x, p, q) ↦ here x q ]

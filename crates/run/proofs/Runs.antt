@@ -2,7 +2,7 @@
 -- call by call. Assumes nothing.
 use mathlib.Core.Path.{_≡_, refl, sym, ap, _∙_, subst}
 use mathlib.Core.List.{List, [], _∷_, _++_, append-nil, foldl-append}
-use mathlib.Core.Logic.{_⊎_, inl, inr}
+use mathlib.Core.Logic.{_⊎_, inl, inr, ⊎-map}
 use Prim.Native.Nat.{ℕ}
 use Rattle.state.specs.Step.{Event}
 use Rattle.bag.specs.Bag.{Bag, empty, noted, follow}
@@ -39,20 +39,17 @@ module _ {X : Type 0} (does : List X → X → List Event) (eventsOf : List X �
     pub within : does before call ≡ first ++ (e ∷ rest)
 
   pub call-of : (e : Event) (run : List X) (past rest : List Event) → eventsOf run ≡ past ++ (e ∷ rest) → CallOf run past e
-  call-of e = by-calls (λ run all. (past rest : List Event) → all ≡ past ++ (e ∷ rest) → CallOf run past e) (λ past rest h. absurd (no-place past e rest h)) more
+  call-of e =
+      by-calls (λ run all. (past rest : List Event) → all ≡ past ++ (e ∷ rest) → CallOf run past e) (λ past rest h. absurd (no-place past e rest h))
+      (λ run x ih past rest h.
+      elim (place-in (eventsOf run) (does run x) past e rest h) [
+        | inl (d, f, g) ↦ stays run x past (ih past d f)
+        | inr (d, f, g) ↦ record { before = run; call = x; later = []; place = refl; first = d; rest = rest; upTo = f; within = g }
+      ])
     where
-      more : (run : List X) (x : X) → ((past rest : List Event) → eventsOf run ≡ past ++ (e ∷ rest) → CallOf run past e)
-          → (past rest : List Event) → eventsOf run ++ does run x ≡ past ++ (e ∷ rest) → CallOf (run ++ (x ∷ [])) past e
-      more run x ih past rest h = go (place-in (eventsOf run) (does run x) past e rest h)
-        where
-          stays : CallOf run past e → CallOf (run ++ (x ∷ [])) past e
-          stays c =
-              record { before = c .before; call = c .call; later = c .later ++ (x ∷ []); place = place-stays run (c .before) (c .call) (c .later) (x ∷ []) (c .place); first = c .first; rest = c .rest; upTo = c .upTo; within = c .within }
-
-          go : ((d : List Event) × (eventsOf run ≡ past ++ (e ∷ d)) × (rest ≡ d ++ does run x)) ⊎ ((d : List Event) × (past ≡ eventsOf run ++ d) × (does run x ≡ d ++ (e ∷ rest)))
-              → CallOf (run ++ (x ∷ [])) past e
-          go (inl (d, f, g)) = stays (ih past d f)
-          go (inr (d, f, g)) = record { before = run; call = x; later = []; place = refl; first = d; rest = rest; upTo = f; within = g }
+      stays : (run : List X) (x : X) (past : List Event) → CallOf run past e → CallOf (run ++ (x ∷ [])) past e
+      stays run x past c =
+          record { before = c .before; call = c .call; later = c .later ++ (x ∷ []); place = place-stays run (c .before) (c .call) (c .later) (x ∷ []) (c .place); first = c .first; rest = c .rest; upTo = c .upTo; within = c .within }
 
   -- ---- values
 
@@ -67,13 +64,14 @@ module _ {X : Type 0} (does : List X → X → List Event) (eventsOf : List X �
 
     pub kept-latest : (run : List X) → Right (empty 0) (eventsOf run) → (a : ℕ) (v : List ℕ) → Keeps run (eventsOf run) a v → LatestTo run a v
     unfolding latest-here latest-keeps
-    kept-latest = by-calls (λ run all. Right (empty 0) all → (a : ℕ) (v : List ℕ) → Keeps run all a v → LatestTo run a v) (λ r a v k. absurd (kept-none a v k))
-        (λ run x ih r a v k. let p = along-split TakesHeld (empty 0) (eventsOf run) (does run x) r in go run x a v (ih (p .0) a v) (kept run x (p .1) a v k))
-      where
-        go : (run : List X) (x : X) (a : ℕ) (v : List ℕ) → (Keeps run (eventsOf run) a v → LatestTo run a v)
-            → (Set a run x × To x a v) ⊎ ((Set a run x → ⊥) × Keeps run (eventsOf run) a v) → LatestTo (run ++ (x ∷ [])) a v
-        go run x a v ih (inl (s, h)) = (latest-here (Set a) run x s, h)
-        go run x a v ih (inr (n, k)) = let l = ih k in (latest-keeps (Set a) run x (l .0) n, l .1)
+    kept-latest =
+        by-calls (λ run all. Right (empty 0) all → (a : ℕ) (v : List ℕ) → Keeps run all a v → LatestTo run a v) (λ r a v k. absurd (kept-none a v k))
+        (λ run x ih r a v k.
+        let p = along-split TakesHeld (empty 0) (eventsOf run) (does run x) r in
+        elim (kept run x (p .1) a v k) [
+          | inl (s, h) ↦ (latest-here (Set a) run x s, h)
+          | inr (n, q) ↦ let l = ih (p .0) a v q in (latest-keeps (Set a) run x (l .0) n, l .1)
+        ])
 
   -- ---- stores
 
@@ -92,18 +90,15 @@ module _ {X : Type 0} (does : List X → X → List Event) (eventsOf : List X �
 
     pub lent-right : (run : List X) → LentAgain run → Right (empty 0) (eventsOf run) × Left run (eventsOf run)
     unfolding empty latest-here latest-keeps
-    lent-right = by-calls (λ run all. LentAgain run → Right (empty 0) all × Left run all) (λ h. (tt, inl (λ a. refl)))
-        (λ run x ih h. go run x (h run [] x refl) (ih (λ before later y e. h before (later ++ (x ∷ [])) y (place-stays run before y later (x ∷ []) e))) (moving run x))
-      where
-        go : (run : List X) (x : X) → (Moving run x → Left run (eventsOf run) → Holds w (bagAfter run) (lent x)) → Right (empty 0) (eventsOf run) × Left run (eventsOf run)
-            → Moving run x ⊎ ((Moving run x → ⊥) × (does run x ≡ [])) → Right (empty 0) (eventsOf run ++ does run x) × Left (run ++ (x ∷ [])) (eventsOf run ++ does run x)
-        go run x h (r, l) (inl m) =
-            let k = honest run x m (h m l) in
-            (along-append TakesHeld (empty 0) (eventsOf run) (does run x) r (k .0), inr (latest-here Moving run x m, subst (λ (b : Bag). Holds w b (left run x)) (sym (foldl-append noted (empty 0) (eventsOf run) (does run x))) (k .1)))
-        go run x h (r, l) (inr (n, e)) =
-            let same = sym (ap (λ (es : List Event). eventsOf run ++ es) e ∙ append-nil (eventsOf run)) in
-            (subst (Right (empty 0)) same r, subst (Left (run ++ (x ∷ []))) same (keeps l))
-          where
-            keeps : Left run (eventsOf run) → Left (run ++ (x ∷ [])) (eventsOf run)
-            keeps (inl k) = inl k
-            keeps (inr (y, k)) = inr (latest-keeps Moving run x y n, k)
+    lent-right =
+        by-calls (λ run all. LentAgain run → Right (empty 0) all × Left run all) (λ h. (tt, inl (λ a. refl)))
+        (λ run x ih h.
+        let p = ih (λ before later y e. h before (later ++ (x ∷ [])) y (place-stays run before y later (x ∷ []) e)) in
+        elim (moving run x) [
+          | inl m ↦
+              let k = honest run x m (h run [] x refl m (p .1)) in
+              (along-append TakesHeld (empty 0) (eventsOf run) (does run x) (p .0) (k .0), inr (latest-here Moving run x m, subst (λ (b : Bag). Holds w b (left run x)) (sym (foldl-append noted (empty 0) (eventsOf run) (does run x))) (k .1)))
+          | inr (n, e) ↦
+              let same = sym (ap (λ (es : List Event). eventsOf run ++ es) e ∙ append-nil (eventsOf run)) in
+              (subst (Right (empty 0)) same (p .0), subst (Left (run ++ (x ∷ []))) same (⊎-map (λ k. k) (λ l. (latest-keeps Moving run x (l .0) n, l .1)) (p .1)))
+        ])

@@ -3,7 +3,7 @@
 use mathlib.Core.Path.{_≡_, refl, sym, ap, _∙_, subst}
 use mathlib.Core.Bool.{true}
 use mathlib.Core.List.{List, [], _∷_, _++_, append-assoc}
-use mathlib.Core.Logic.{_⊎_, inl, inr}
+use mathlib.Core.Logic.{inl, inr}
 use Prim.Native.Nat.{ℕ, _≤_}
 use Rattle.state.specs.Marks.{used}
 use Rattle.state.specs.Cells.{Entry, entryAt}
@@ -42,12 +42,11 @@ honest-no-collision w one tag key run u c =
 -- ---- what is not in use may change
 
 pub unused-may-change : (w : ℕ) → 1 ≤ w → (tag : List ℕ → Entry → List ℕ) → UnusedMayChange w tag
-unused-may-change w one tag key run c m n done same u before later x place d l a i = go (last-place run (lent c n) before x later place)
+unused-may-change w one tag key run c m n done same u before later x place d l a i =
+    elim (last-place run (lent c n) before x later place) [
+      | inl (r, f, g) ↦ u before (r ++ (lent c m ∷ [])) x (place-stays run before x r (lent c m ∷ []) f) d l a i
+      | inr (f, g) ↦ subst (λ (b : List Lent). Left b x) (sym f) (subst (Left run) (sym g) (λ d k j. same a j ∙ u run [] (lent c m) refl (done, d .1) k a j)) d l i
+    ]
   where
     Left : List Lent → Lent → Type 0
     Left before x = Moves w tag key before x → (l : Latest (Moves w tag key) before) → used (stateAfter w tag key before .marks) a ≡ true → entryAt w (x .bytes) a ≡ entryAt w (result w tag key (l .before) (l .call) .seen .store) a
-
-    go : ((r : List Lent) × (run ≡ before ++ (x ∷ r)) × (later ≡ r ++ (lent c n ∷ []))) ⊎ ((before ≡ run) × (x ≡ lent c n)) → entryAt w (x .bytes) a ≡ entryAt w (result w tag key (l .before) (l .call) .seen .store) a
-    go (inl (r, f, g)) = u before (r ++ (lent c m ∷ [])) x (place-stays run before x r (lent c m ∷ []) f) d l a i
-    go (inr (f, g)) =
-        subst (λ (b : List Lent). Left b x) (sym f) (subst (Left run) (sym g) (λ d k j. same a j ∙ u run [] (lent c m) refl (done, d .1) k a j)) d l i

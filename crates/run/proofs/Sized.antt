@@ -20,7 +20,7 @@ use Rattle.bag.proofs.Sizes.{below-bound}
 use Rattle.run.specs.Calls.{Lent}
 use Rattle.run.specs.Demand3.{eventsOf}
 use Rattle.run.proofs.Does.{Room, still, does}
-use Rattle.run.proofs.FromStart.{doneBy, bagOf, by-run, RunDid, run-did}
+use Rattle.run.proofs.FromStart.{doneBy, bagOf, by-run, run-did}
 
 pub ceiling-one : (w : ℕ) → 1 ≤ w → 1 ≤ ceiling w
 unfolding ceiling
@@ -49,11 +49,9 @@ module _ (w : ℕ) (tag : List ℕ → Entry → List ℕ) (key : List ℕ) wher
     puts-fit : (run : List Lent) → Along (PutFits w) (empty 0) (eventsOf w tag key run)
     puts-fit =
         by-run w tag key (λ run all. Along (PutFits w) (empty 0) all) tt
-        (λ run x ih. along-append (PutFits w) (empty 0) (eventsOf w tag key run) (doneBy w tag key run x) ih (go run x (room (eventsOf w tag key run) ih) (run-did w tag key run x)))
-      where
-        go : (run : List Lent) (x : Lent) → Room w (bagOf w tag key run) → RunDid w tag key run x → Along (PutFits w) (bagOf w tag key run) (doneBy w tag key run x)
-        go run x g (still n) = subst (Along (PutFits w) (bagOf w tag key run)) (sym (n .events)) tt
-        go run x g (does o y d) = d .putFits g
+        (λ run x ih.
+        along-append (PutFits w) (empty 0) (eventsOf w tag key run) (doneBy w tag key run x) ih
+        (elim (run-did w tag key run x) [ still n ↦ subst (Along (PutFits w) (bagOf w tag key run)) (sym (n .events)) tt | does o y d ↦ d .putFits (room (eventsOf w tag key run) ih) ]))
 
     pub run-room : (run : List Lent) → Room w (bagOf w tag key run)
     run-room run = room (eventsOf w tag key run) (puts-fit run)
@@ -67,11 +65,8 @@ module _ (w : ℕ) (tag : List ℕ → Entry → List ℕ) (key : List ℕ) wher
   takes-fit =
       by-run w tag key (λ run all. AllBytes run → Along (TakeFits w) (empty 0) all) (λ h. tt)
       (λ run x ih h.
-      along-append (TakeFits w) (empty 0) (eventsOf w tag key run) (doneBy w tag key run x) (ih (λ before later y e. h before (later ++ (x ∷ [])) y (place-stays run before y later (x ∷ []) e))) (go run x (h run [] x refl) (run-did w tag key run x)))
-    where
-      go : (run : List Lent) (x : Lent) → Bytes (x .bytes) → RunDid w tag key run x → Along (TakeFits w) (bagOf w tag key run) (doneBy w tag key run x)
-      go run x h (still n) = subst (Along (TakeFits w) (bagOf w tag key run)) (sym (n .events)) tt
-      go run x h (does o y d) = d .takeFits h
+      along-append (TakeFits w) (empty 0) (eventsOf w tag key run) (doneBy w tag key run x) (ih (λ before later y e. h before (later ++ (x ∷ [])) y (place-stays run before y later (x ∷ []) e)))
+      (elim (run-did w tag key run x) [ still n ↦ subst (Along (TakeFits w) (bagOf w tag key run)) (sym (n .events)) tt | does o y d ↦ d .takeFits (h run [] x refl) ]))
 
   module _ (one : 1 ≤ w) (run : List Lent) (h : AllBytes run) where
     pub entries-sized : (p q : List Event) (e : Entry) → (eventsOf w tag key run ≡ p ++ (put e ∷ q)) ⊎ (eventsOf w tag key run ≡ p ++ (took e ∷ q)) → Fits w e

@@ -56,7 +56,12 @@ module _ (w : ℕ) (tag : List ℕ → Entry → List ℕ) (key : List ℕ) wher
 
   pub sound : (run : List Lent) → LastAccepts w tag key run → EachLoad w tag key run ⊎ Collision w tag key run
   unfolding puts empty noted acceptance
-  sound run (before, m, place, a) = go (sound-accepted (tag key) (empty 0) past (puts w s m) (empty-orderly 0) (right refl tt) (subst (Along (May (tag key)) (empty 0)) all (invariant w tag key run .lawful)))
+  sound run (before, m, place, a) =
+      elim (sound-accepted (tag key) (empty 0) past (puts w s m) (empty-orderly 0) (right refl tt) (subst (Along (May (tag key)) (empty 0)) all (invariant w tag key run .lawful))) [
+        | inl c ↦ inr (collision run (subst (Collides (tag key) (empty 0)) (sym all) c))
+        | inr r ↦
+            inl (loads-right w tag key run (subst (Right (empty 0)) (sym all) (along-append TakesHeld (empty 0) past (accepted ∷ puts w s m) r (tt, along-map TakesHeld put (λ x e. tt) (empty 1) (reput w (s .marks) m)))))
+      ]
     where
       s : State
       s = stateAfter w tag key before
@@ -68,8 +73,3 @@ module _ (w : ℕ) (tag : List ℕ → Entry → List ℕ) (key : List ℕ) wher
       all =
           ap (eventsOf w tag key) place ∙ events-last w tag key before (lent check m) ∙ ap (λ (r : Step). eventsOf w tag key before ++ r .events) (accepts-gives w tag s m a)
           ∙ sym (append-assoc (eventsOf w tag key before) (takes w s m) (accepted ∷ puts w s m))
-
-      go : Collides (tag key) (empty 0) (past ++ (accepted ∷ puts w s m)) ⊎ Right (empty 0) past → EachLoad w tag key run ⊎ Collision w tag key run
-      go (inl c) = inr (collision run (subst (Collides (tag key) (empty 0)) (sym all) c))
-      go (inr r) =
-          inl (loads-right w tag key run (subst (Right (empty 0)) (sym all) (along-append TakesHeld (empty 0) past (accepted ∷ puts w s m) r (tt, along-map TakesHeld put (λ x e. tt) (empty 1) (reput w (s .marks) m)))))

@@ -5,7 +5,7 @@ use Prim.Native.Nat.{ℕ, _+_}
 use lib.ListN.{take, replicate, getD}
 use Rattle.octets.specs.Layout.{total, join, split, number, bytes}
 use Rattle.octets.specs.Places.{xor, same}
-use Rattle.state.specs.Sizes.{keySize, addresses, valueSize, cellSize, storeSize, ceiling}
+use Rattle.state.specs.Sizes.{width, keySize, addresses, valueSize, cellSize, storeSize, ceiling}
 use Rattle.state.specs.Marks.{used, marked, usedBelow, inUse}
 use Rattle.state.specs.Cells.{Entry, valueAt, stampAt, entryAt, writeCell, writeEntry}
 use Rattle.state.specs.Multiset.{emptyHash, withTag, sameHash}
@@ -21,9 +21,9 @@ use Rattle.run.specs.Calls.{Call, add, load, store, check, Lent, lent, s
 toy : List ℕ → Entry → List ℕ
 toy k e = (e .address + e .stamp + getD (e .value) 0 0) ∷ e .stamp ∷ replicate 30 1
 
--- a value of 28 equal bytes, as the bench has them
+-- a value of equal bytes, as the bench has them
 value : ℕ → List ℕ
-value b = replicate 28 b
+value b = replicate valueSize b
 
 -- a call, and what is done to the store before it; and the run in which each call is lent what the call before left, so spoilt
 record Line : Type 0 where
@@ -35,7 +35,7 @@ line c = record { spoil = λ m. m; call = c }
 
 lend : State → List ℕ → List Line → List Lent
 lend s m [] = []
-lend s m (x ∷ xs) = let r = step 2 toy s (x .spoil m) (x .call) .seen in lent (x .call) (x .spoil m) ∷ lend (r .state) (r .store) xs
+lend s m (x ∷ xs) = let r = step width toy s (x .spoil m) (x .call) .seen in lent (x .call) (x .spoil m) ∷ lend (r .state) (r .store) xs
 
 -- what a run replies: the number, the verdict, and the first byte of the out buffer
 record Reply : Type 0 where
@@ -49,14 +49,14 @@ reply n v o = record { number = n; verdict = v; out = o }
 replies : State → List Lent → List Reply
 replies s [] = []
 replies s (x ∷ xs) =
-    let r = step 2 toy s (x .bytes) (x .call) .seen in
+    let r = step width toy s (x .bytes) (x .call) .seen in
     reply (r .number) (r .verdict) (take 1 (r .out)) ∷ replies (r .state) xs
 
 begin : State
-begin = startOf (replicate 32 0) .state
+begin = startOf (replicate keySize 0) .state
 
 session : List Line → List Reply
-session xs = replies begin (lend begin (replicate 30720 0) xs)
+session xs = replies begin (lend begin (replicate (storeSize width) 0) xs)
 
 -- all is honest: each load gives the value last added or stored, and each check accepts
 honest : List Line
@@ -66,7 +66,7 @@ honest =
 -- the store hands back the cell that the add had left, with its stamp: the load gives the old value, the check rejects, and the next load is refused
 lied : List Line
 lied =
-    line (add 5 (value 0x41)) ∷ line (store 5 (value 0x42)) ∷ line (load 5 (value 0)) ∷ record { spoil = λ m. writeCell 2 m 5 (value 0x41) 1; call = load 5 (value 0) } ∷ line check ∷ line (load 5 (value 7)) ∷ []
+    line (add 5 (value 0x41)) ∷ line (store 5 (value 0x42)) ∷ line (load 5 (value 0)) ∷ record { spoil = λ m. writeCell width m 5 (value 0x41) 1; call = load 5 (value 0) } ∷ line check ∷ line (load 5 (value 7)) ∷ []
 
 worked : (session honest ≡ reply 0 Nothing [] ∷ reply 0 Nothing [] ∷ reply 0 Nothing (0x42 ∷ []) ∷ reply 0 Accept [] ∷ reply 0 Nothing (0x42 ∷ []) ∷ reply 0 Accept [] ∷ [])
     × (session lied ≡ reply 0 Nothing [] ∷ reply 0 Nothing [] ∷ reply 0 Nothing (0x42 ∷ []) ∷ reply 0 Nothing (0x41 ∷ []) ∷ reply 0 Reject [] ∷ reply 7 Nothing (7 ∷ []) ∷ [])
