@@ -13,7 +13,7 @@ use Rattle.state.specs.declared.State.{State}
 use Rattle.state.proofs.Multiset.{equal-sameHash, hash-none, hash-last}
 use Rattle.state.proofs.Guards.{agrees-tells}
 use Rattle.bag.specs.Bag.{Bag, empty, noted, follow}
-use Rattle.bag.specs.Claims.{Follows, Verdict}
+use Rattle.bag.specs.Following.{Follows, Verdict}
 
 module _ (tag : List ℕ → Entry → List ℕ) (key : List ℕ) where
   -- a hash with one element more

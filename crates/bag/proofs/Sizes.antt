@@ -14,7 +14,7 @@ use Rattle.state.specs.Sizes.{addresses, valueSize, cellSize, storeSize, ceilin
 use Rattle.state.specs.Cells.{stampAt, entryAt}
 use Rattle.state.specs.Multiset.{Fits}
 use Rattle.state.proofs.Cells.{cell-within, value-length}
-use Rattle.bag.specs.Claims.{Bytes}
+use Rattle.bag.specs.Following.{Bytes}
 
 part-bytes : (m : List ℕ) → Bytes m → (n w : ℕ) → Bytes (take w (drop n m))
 part-bytes m h n w i = go (ltb i w) refl

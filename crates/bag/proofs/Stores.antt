@@ -15,7 +15,7 @@ use Rattle.state.specs.Step.{took, put}
 use Rattle.state.proofs.Cells.{write-length, entry-other, entry-written}
 use Rattle.bag.specs.Bag.{Bag, noted, follow}
 use Rattle.bag.specs.Law.{Along}
-use Rattle.bag.specs.Claims.{Holds, InCell, PutFits}
+use Rattle.bag.specs.Following.{Holds, InCell, PutFits}
 use Rattle.bag.proofs.Sizes.{below-bound}
 use Rattle.bag.proofs.Orderly.{none-some, upd-tells}
 

@@ -14,7 +14,7 @@ use Rattle.state.specs.Check.{opening}
 use Rattle.state.proofs.Cells.{value-length}
 use Rattle.bag.specs.Bag.{Bag, empty, noted, follow}
 use Rattle.bag.specs.Law.{Along, Bare, May, Lawful, TakesHeld, Right}
-use Rattle.bag.specs.Claims.{Holds, PutFits, Bytes, TakeFits}
+use Rattle.bag.specs.Following.{Holds, PutFits, Bytes, TakeFits}
 use Rattle.bag.proofs.Orderly.{there, upd-other}
 use Rattle.bag.proofs.Sizes.{taken-fits}
 use Rattle.bag.proofs.Addresses.{among, Distinct, held-each, along-each, right-each}

@@ -1,3 +1,4 @@
 pub mod Bag
 pub mod Law
 pub mod Claims
+pub mod Following

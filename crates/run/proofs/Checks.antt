@@ -21,7 +21,7 @@ use Rattle.state.proofs.Marks.{used-below}
 use Rattle.state.proofs.Guards.{opens}
 use Rattle.bag.specs.Bag.{Bag, empty, noted, follow}
 use Rattle.bag.specs.Law.{Along, Bare, May, Lawful, TakesHeld, Right}
-use Rattle.bag.specs.Claims.{Follows, Holds, PutFits, Bytes, TakeFits}
+use Rattle.bag.specs.Following.{Follows, Holds, PutFits, Bytes, TakeFits}
 use Rattle.bag.proofs.Lists.{place-in}
 use Rattle.bag.proofs.Cases.{by-cond}
 use Rattle.bag.proofs.Unbroken.{Unbroken, unbroken, takes-plain, puts-plain}

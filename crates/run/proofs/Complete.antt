@@ -15,7 +15,7 @@ use Rattle.state.proofs.Guards.{equal-accepts}
 use Rattle.state.proofs.Multiset.{same-counts}
 use Rattle.bag.specs.Bag.{empty, noted, follow}
 use Rattle.bag.specs.Law.{Bare, May, TakesHeld, Right}
-use Rattle.bag.specs.Claims.{Holds}
+use Rattle.bag.specs.Following.{Holds}
 use Rattle.bag.proofs.Lists.{place-stays}
 use Rattle.bag.proofs.Along.{along-append}
 use Rattle.bag.proofs.Orderly.{there, none-some, empty-orderly}

@@ -16,7 +16,7 @@ use Rattle.state.specs.declared.State.{State}
 use Rattle.state.specs.declared.Verdict.the-variants.{Accept, Nothing}
 use Rattle.bag.specs.Bag.{Bag, follow}
 use Rattle.bag.specs.Law.{Along, Lawful, Right}
-use Rattle.bag.specs.Claims.{Follows, Holds, PutFits, Bytes, TakeFits}
+use Rattle.bag.specs.Following.{Follows, Holds, PutFits, Bytes, TakeFits}
 use Rattle.bag.proofs.Orderly.{there}
 use Rattle.run.specs.Calls.{Call, load, check, moves}
 use Rattle.run.specs.Demand3.{Sets}

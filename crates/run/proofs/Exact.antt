@@ -14,7 +14,7 @@ use Rattle.state.specs.declared.State.{State}
 use Rattle.state.proofs.Ready.{call-done, check-ready}
 use Rattle.state.proofs.Guards.{accepts-tells, equal-accepts}
 use Rattle.bag.specs.Bag.{Bag, empty, noted, follow}
-use Rattle.bag.specs.Claims.{Follows}
+use Rattle.bag.specs.Following.{Follows}
 use Rattle.bag.proofs.Cases.{by-cond}
 use Rattle.bag.proofs.Orderly.{empty-orderly, stays-orderly}
 use Rattle.bag.proofs.Faults.{on-time, calm-after}

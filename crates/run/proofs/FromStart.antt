@@ -17,7 +17,7 @@ use Rattle.state.proofs.Marks.{fresh-unused}
 use Rattle.state.proofs.Multiset.{hash-none}
 use Rattle.bag.specs.Bag.{Bag, empty, noted, follow}
 use Rattle.bag.specs.Law.{May, Lawful}
-use Rattle.bag.specs.Claims.{Follows}
+use Rattle.bag.specs.Following.{Follows}
 use Rattle.bag.proofs.Along.{along-append}
 use Rattle.run.specs.Calls.{Call, Lent, step, after, events}
 use Rattle.run.specs.Demand3.{stateAfter, result, eventsOf, Moves}

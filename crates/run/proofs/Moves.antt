@@ -21,7 +21,7 @@ use Rattle.state.proofs.Cells.{value-length}
 use Rattle.state.proofs.Marks.{used-marked, used-unmarked, length-marked, length-unmarked}
 use Rattle.state.proofs.Ready.{Ready, add-ready, use-ready, remove-ready}
 use Rattle.bag.specs.Bag.{Bag, upd, noted}
-use Rattle.bag.specs.Claims.{Follows, Holds, InCell}
+use Rattle.bag.specs.Following.{Follows, Holds, InCell}
 use Rattle.bag.proofs.Unbroken.{unbroken}
 use Rattle.bag.proofs.Orderly.{there, none-some, upd-other, upd-here}
 use Rattle.bag.proofs.Follows.{take-follows, put-follows}

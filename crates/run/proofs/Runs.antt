@@ -7,7 +7,7 @@ use Prim.Native.Nat.{ℕ}
 use Rattle.state.specs.Step.{Event}
 use Rattle.bag.specs.Bag.{Bag, empty, noted, follow}
 use Rattle.bag.specs.Law.{Bare, TakesHeld, Right}
-use Rattle.bag.specs.Claims.{Holds}
+use Rattle.bag.specs.Following.{Holds}
 use Rattle.bag.proofs.Lists.{by-last, place-in, no-place, place-stays}
 use Rattle.bag.proofs.Along.{along-append, along-split}
 use Rattle.run.specs.Demand3.{Latest}

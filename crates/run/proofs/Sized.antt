@@ -13,7 +13,7 @@ use Rattle.state.specs.Step.{Event, took, put, accepted}
 use Rattle.state.proofs.Messages.{message-injective}
 use Rattle.bag.specs.Bag.{Bag, empty, noted, follow}
 use Rattle.bag.specs.Law.{Along}
-use Rattle.bag.specs.Claims.{InCell, PutFits, Bytes, TakeFits}
+use Rattle.bag.specs.Following.{InCell, PutFits, Bytes, TakeFits}
 use Rattle.bag.proofs.Lists.{place-stays}
 use Rattle.bag.proofs.Along.{along-append, along-split}
 use Rattle.bag.proofs.Sizes.{below-bound}

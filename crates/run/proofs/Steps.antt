@@ -14,7 +14,7 @@ use Rattle.state.specs.declared.State.{State}
 use Rattle.state.specs.declared.Verdict.the-variants.{Nothing}
 use Rattle.state.proofs.Ready.{add-ready, use-ready, remove-ready, check-ready}
 use Rattle.bag.specs.Bag.{Bag}
-use Rattle.bag.specs.Claims.{Follows}
+use Rattle.bag.specs.Following.{Follows}
 use Rattle.run.specs.Calls.{Call, add, load, store, remove, check, look, count, lowest, moves, idle, step}
 use Rattle.run.proofs.Does.{Fit, Does, Did, still, does}
 use Rattle.run.proofs.Moves.{add-does, load-does, store-does, remove-does}
