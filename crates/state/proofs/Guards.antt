@@ -14,12 +14,12 @@ use Rattle.state.specs.Cells.{Entry}
 use Rattle.state.specs.Multiset.{emptyHash, sameHash}
 use Rattle.state.specs.Step.{seen, step, takeEntry, putEntry}
 use Rattle.state.specs.Moves.{call}
-use Rattle.state.specs.Check.{checkRows, opening, opened, agrees, takeAll, putAll, acceptance, rejection, checkOf}
+use Rattle.state.specs.Check.{checkRows, opening, opened, agrees, takeAll, putEach, putAll, acceptance, rejection, checkOf}
 use Rattle.state.specs.declared.State.{State}
 use Rattle.state.specs.declared.Verdict.the-variants.{Accept, Nothing}
 use Rattle.octets.proofs.Same.{both}
 use Rattle.state.proofs.Multiset.{sameHash-true, equal-sameHash}
-use Rattle.state.proofs.Walks.{openBelow, put-all}
+use Rattle.state.proofs.Walks.{putEachBelow, put-each}
 
 module _ (tag : List ℕ → Entry → List ℕ) (s : State) where
   -- a take marks a fault exactly where one was marked or the stamp is above the clock
@@ -75,14 +75,23 @@ module _ (w : ℕ) (tag : List ℕ → Entry → List ℕ) (s : State) (m : List
     pub closed : t .closed ≡ s .closed
     pub marks : t .marks ≡ s .marks
 
-  opens-below : (n : ℕ) → Opens (openBelow w tag s m n)
-  unfolding openBelow opened putEntry opening
-  opens-below zero = record { key = refl; take = refl; clock = refl; fault = refl; closed = refl; marks = refl }
-  opens-below (suc n) = go (used (s .marks) n) (opens-below n)
-    where
-      go : (b : Bool) → Opens (openBelow w tag s m n) → Opens (cond b (putEntry tag (openBelow w tag s m n) (opening w m n)) (openBelow w tag s m n))
-      go true h = record { key = h .key; take = h .take; clock = refl; fault = h .fault; closed = h .closed; marks = h .marks }
-      go false h = h
+  module _ (ws : List ℕ) where
+    opens-below : (n : ℕ) → Opens (putEachBelow w tag ws (opened s) m n)
+    unfolding putEachBelow opened putEntry opening
+    opens-below zero = record { key = refl; take = refl; clock = refl; fault = refl; closed = refl; marks = refl }
+    opens-below (suc n) = go (used ws n) (opens-below n)
+      where
+        x : State
+        x = putEachBelow w tag ws (opened s) m n
+
+        go : (b : Bool) → Opens x → Opens (cond b (putEntry tag x (opening w m n)) x)
+        go true h = record { key = h .key; take = h .take; clock = refl; fault = h .fault; closed = h .closed; marks = h .marks }
+        go false h = h
+
+    -- whatever addresses are put
+    pub opens-each : Opens (putEach w tag ws (opened s) m)
+    opens-each = subst Opens (sym (put-each w tag ws (opened s) m)) (opens-below addresses)
 
   pub opens : Opens (putAll w tag s m)
-  opens = subst Opens (sym (put-all w tag s m)) (opens-below addresses)
+  unfolding putAll
+  opens = opens-each (s .marks)

@@ -1,4 +1,4 @@
--- A check address by address: the state and the store after the addresses in use below n, and that after the last address they are a check's. Assumes nothing.
+-- A walk address by address: the state and the store after the marked addresses below n, and that after the last address they are the walk's. Assumes nothing.
 use mathlib.Core.Path.{_≡_, refl, sym, ap, ap₂, _∙_}
 use mathlib.Core.Bool.{Bool, true, false, cond}
 use mathlib.Core.List.{List, [], _∷_, _++_, map, map-append, map-map, foldl, foldl-append}
@@ -9,7 +9,7 @@ use Rattle.state.specs.Sizes.{addresses, storeSize}
 use Rattle.state.specs.Marks.{used, usedBelow, inUse}
 use Rattle.state.specs.Cells.{Entry, entry, valueAt, entryAt, writeEntry}
 use Rattle.state.specs.Step.{Event, took, put, takeEntry, putEntry}
-use Rattle.state.specs.Check.{taken, opening, reput, opened, takes, puts, writeAll, takeAll, putAll}
+use Rattle.state.specs.Check.{taken, opening, reput, opened, takes, puts, writeEach, writeAll, takeEach, takeAll, putEach, putAll}
 use Rattle.state.specs.declared.State.{State}
 use Rattle.state.proofs.Cells.{write-length, value-length, value-other}
 
@@ -35,15 +35,19 @@ pub puts-used : (w : ℕ) (s : State) (m : List ℕ) → puts w s m ≡ map (λ 
 unfolding puts reput inUse
 puts-used w s m = map-map put (opening w m) (usedBelow (s .marks) addresses)
 
--- ---- the store after the addresses in use below n are put again
+-- ---- the store after the marked addresses below n are put again
 
 unfoldable pub putBelow : ℕ → List ℕ → List ℕ → ℕ → List ℕ
 putBelow w ws m zero = m
 putBelow w ws m (suc n) = cond (used ws n) (writeEntry w (putBelow w ws m n) (opening w m n)) (putBelow w ws m n)
 
+pub write-each : (w : ℕ) (ws m : List ℕ) → writeEach w ws m ≡ putBelow w ws m addresses
+unfolding writeEach reput inUse putBelow
+write-each w ws m = sym (fold-used (writeEntry w) (opening w m) ws (putBelow w ws m) (λ n. refl) addresses)
+
 pub write-all : (w : ℕ) (s : State) (m : List ℕ) → writeAll w s m ≡ putBelow w (s .marks) m addresses
-unfolding writeAll reput inUse putBelow
-write-all w s m = sym (fold-used (writeEntry w) (opening w m) (s .marks) (putBelow w (s .marks) m) (λ n. refl) addresses)
+unfolding writeAll
+write-all w s m = write-each w (s .marks) m
 
 puts-step : (b : Bool) (w : ℕ) (x m : List ℕ) (n : ℕ) → n < addresses → length m ≡ storeSize w → length x ≡ storeSize w
     → length (cond b (writeEntry w x (opening w m n)) x) ≡ storeSize w
@@ -70,21 +74,30 @@ puts-beyond w ws m (suc n) a h g l =
     beyond-step (used ws n) w (putBelow w ws m n) m n a (omega arith) h l (puts-length w ws m n (omega arith) l) ∙ puts-beyond w ws m n a (omega arith) g l
 
 module _ (w : ℕ) (tag : List ℕ → Entry → List ℕ) where
-  -- ---- the state after the addresses in use below n are taken, and that of a new period after they are put
+  -- ---- the state after the marked addresses below n are taken, and after they are put
 
+  unfoldable pub takeEachBelow : List ℕ → State → List ℕ → ℕ → State
+  takeEachBelow ws s m zero = s
+  takeEachBelow ws s m (suc n) = cond (used ws n) (takeEntry tag (takeEachBelow ws s m n) (entryAt w m n)) (takeEachBelow ws s m n)
+
+  unfoldable pub putEachBelow : List ℕ → State → List ℕ → ℕ → State
+  putEachBelow ws s m zero = s
+  putEachBelow ws s m (suc n) = cond (used ws n) (putEntry tag (putEachBelow ws s m n) (opening w m n)) (putEachBelow ws s m n)
+
+  -- after those in use below n are taken
   unfoldable pub takeBelow : State → List ℕ → ℕ → State
-  takeBelow s m zero = s
-  takeBelow s m (suc n) = cond (used (s .marks) n) (takeEntry tag (takeBelow s m n) (entryAt w m n)) (takeBelow s m n)
+  unfolding takeEachBelow
+  takeBelow s m n = takeEachBelow (s .marks) s m n
 
-  unfoldable pub openBelow : State → List ℕ → ℕ → State
-  openBelow s m zero = opened s
-  openBelow s m (suc n) = cond (used (s .marks) n) (putEntry tag (openBelow s m n) (opening w m n)) (openBelow s m n)
+  module _ (ws : List ℕ) (s : State) (m : List ℕ) where
+    pub take-each : takeEach w tag ws s m ≡ takeEachBelow ws s m addresses
+    unfolding takeEach taken inUse takeEachBelow
+    take-each = sym (fold-used (takeEntry tag) (entryAt w m) ws (takeEachBelow ws s m) (λ n. refl) addresses)
 
-  module _ (s : State) (m : List ℕ) where
-    pub take-all : takeAll w tag s m ≡ takeBelow s m addresses
-    unfolding takeAll taken inUse takeBelow
-    take-all = sym (fold-used (takeEntry tag) (entryAt w m) (s .marks) (takeBelow s m) (λ n. refl) addresses)
+    pub put-each : putEach w tag ws s m ≡ putEachBelow ws s m addresses
+    unfolding putEach reput inUse putEachBelow
+    put-each = sym (fold-used (putEntry tag) (opening w m) ws (putEachBelow ws s m) (λ n. refl) addresses)
 
-    pub put-all : putAll w tag s m ≡ openBelow s m addresses
-    unfolding putAll reput inUse openBelow
-    put-all = sym (fold-used (putEntry tag) (opening w m) (s .marks) (openBelow s m) (λ n. refl) addresses)
+  pub take-all : (s : State) (m : List ℕ) → takeAll w tag s m ≡ takeBelow s m addresses
+  unfolding takeAll takeBelow
+  take-all s m = take-each (s .marks) s m

@@ -1,5 +1,5 @@
 -- 01, Check. Over the stamp's width w and the tag. What a check takes and what an accepted one puts are two lists; the state, the store and the events are
--- made of these. Assumes nothing.
+-- made of these. The lists and the walks along them are over words of marks, which say at what addresses: a check's are the state's own. Assumes nothing.
 use mathlib.Core.Bool.{Bool, true, false, cond, not, _&&_}
 use mathlib.Core.List.{List, [], _∷_, _++_, map, foldl}
 use mathlib.Core.Option.{Option, none, some}
@@ -29,7 +29,7 @@ verdictAccepts Nothing = none
 unfoldable pub checkRows : ℕ → State → List ℕ → List Row
 checkRows w s m = shutRow s ∷ storeRow w m ∷ []
 
--- what is taken at the addresses in use: each with what its cell holds, lowest first
+-- what is taken at the marked addresses: each with what its cell holds, lowest first
 unfoldable pub taken : ℕ → List ℕ → List ℕ → List Entry
 taken w ws m = map (entryAt w m) (inUse ws)
 
@@ -56,18 +56,30 @@ takes w s m = map took (taken w (s .marks) m)
 unfoldable pub puts : ℕ → State → List ℕ → List Event
 puts w s m = map put (reput w (s .marks) m)
 
--- the store after the puts
+-- the store after the puts, at the marked addresses and at those in use
+unfoldable pub writeEach : ℕ → List ℕ → List ℕ → List ℕ
+writeEach w ws m = foldl (writeEntry w) m (reput w ws m)
+
 unfoldable pub writeAll : ℕ → State → List ℕ → List ℕ
-writeAll w s m = foldl (writeEntry w) m (reput w (s .marks) m)
+unfolding writeEach
+writeAll w s m = writeEach w (s .marks) m
 
 module _ (w : ℕ) (tag : List ℕ → Entry → List ℕ) where
-  -- the state after the takes
-  unfoldable pub takeAll : State → List ℕ → State
-  takeAll s m = foldl (takeEntry tag) s (taken w (s .marks) m)
+  -- the state after the takes, at the marked addresses and at those in use
+  unfoldable pub takeEach : List ℕ → State → List ℕ → State
+  takeEach ws s m = foldl (takeEntry tag) s (taken w ws m)
 
-  -- the state of the new period after the puts
+  unfoldable pub takeAll : State → List ℕ → State
+  unfolding takeEach
+  takeAll s m = takeEach (s .marks) s m
+
+  -- the state after the puts, at the marked addresses; and in a new period, at those in use
+  unfoldable pub putEach : List ℕ → State → List ℕ → State
+  putEach ws s m = foldl (putEntry tag) s (reput w ws m)
+
   unfoldable pub putAll : State → List ℕ → State
-  putAll s m = foldl (putEntry tag) (opened s) (reput w (s .marks) m)
+  unfolding putEach
+  putAll s m = putEach (s .marks) (opened s) m
 
   -- accepted: between the takes, which end a period, and the puts, which begin the next
   unfoldable pub acceptance : State → List ℕ → Step

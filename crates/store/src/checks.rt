@@ -1,17 +1,16 @@
-// The parts of a check.
+// The walks of a check: over words of marks, which say at what addresses.
 use state::State;
 ghost use mathlib.Core.Path.{_≡_};
 ghost use lib.ListN.{length};
 ghost use Rattle.state.specs.Sizes.{width, storeSize};
-ghost use Rattle.state.specs.Check.{takeAll, putAll, writeAll};
+ghost use Rattle.state.specs.Check.{takeEach, putEach, writeEach};
 ghost use Rattle.entries.specs.Tag.{tag};
 
-// Every address in use is taken, lowest first.
-pub fn take_all(s: State, store: &[u8]) -> State
+// Every marked address is taken, lowest first.
+pub fn take_each(s: State, m: [u64; State::WORDS], store: &[u8]) -> State
     requires { ⌜ length (now store) ≡ storeSize width ⌝ }
-    ensures { λ r. ⌜ r ≡ takeAll width tag s (now (store .entry)) ⌝ }
+    ensures { λ r. ⌜ r ≡ takeEach width tag m s (now (store .entry)) ⌝ }
 {
-    let m = s.marks;
     let mut r = s;
     let mut a = marks::next_used(m, 0);
     while a < State::ADDRESSES {
@@ -21,14 +20,13 @@ pub fn take_all(s: State, store: &[u8]) -> State
     r
 }
 
-// The puts that begin a period: at each address in use its value, with stamp 1.
-pub fn put_all(s: State, store: &mut [u8]) -> State
+// The puts that begin a period: at each marked address its value, with stamp 1.
+pub fn put_each(s: State, m: [u64; State::WORDS], store: &mut [u8]) -> State
     requires { ⌜ length (now store) ≡ storeSize width ⌝ }
-    ensures { λ r. ⌜ (r ≡ putAll width tag s (now (store .entry)))
-        × (now (store .exit) ≡ writeAll width s (now (store .entry))) ⌝ }
+    ensures { λ r. ⌜ (r ≡ putEach width tag m s (now (store .entry)))
+        × (now (store .exit) ≡ writeEach width m (now (store .entry))) ⌝ }
 {
-    let m = s.marks;
-    let mut r = periods::opened(s);
+    let mut r = s;
     let mut a = marks::next_used(m, 0);
     while a < State::ADDRESSES {
         let v = crate::cells::value_at(store, a);

@@ -86,8 +86,9 @@ pub fn check(s: State, store: &mut [u8]) -> Checked
             state: s,
         };
     }
-    if periods::agrees(checks::take_all(s, store)) {
-        let state = checks::put_all(s, store);
+    let m = s.marks;
+    if periods::agrees(checks::take_each(s, m, store)) {
+        let state = checks::put_each(periods::opened(s), m, store);
         return Checked {
             number: 0,
             verdict: Verdict::Accept,

@@ -4,7 +4,7 @@ use mathlib.Core.Path.{_≡_, sym, ap, ap₂, _∙_}
 use mathlib.Core.Bool.{true, false}
 use Rattle.state.specs.Sizes.{width}
 use Rattle.state.specs.Step.{seen}
-use Rattle.state.specs.Check.{checkOf, agrees, takeAll, acceptance, rejection}
+use Rattle.state.specs.Check.{checkOf, agrees, takeEach, takeAll, putEach, putAll, writeAll, acceptance, rejection}
 use Rattle.state.specs.declared.Verdict.the-variants.{Accept, Reject}
 use Rattle.entries.specs.Tag.{tag}
 use Rattle.state.proofs.Ready.{check-ready, call-done}
@@ -16,37 +16,43 @@ returns : tie.Need-returns
 unfolding checkOf
 returns c = refused-seen _ _ _ _ _ (c .before .check .ensures) (c .if1 .taken)
 
-take-all-requires : tie.Need-take-all-requires
-take-all-requires c κs =
-    let b = c .before .before in
+take-each-requires : tie.Need-take-each-requires
+take-each-requires c κs =
+    let d = c .before .before in
+    let b = d .before in
     let x = b .before .before .before .args in
-    check-ready 2 (x .s) (x .store .now) (sym (b .check .ensures) ∙ c .before .if1 .left) .1
+    check-ready width (x .s) (x .store .now) (sym (b .check .ensures) ∙ d .if1 .left) .1
 
-put-all-requires : tie.Need-put-all-requires
-put-all-requires c κs =
-    let d = c .before .before .before .before .before in
-    let x = d .before .before .before .before .args in
-    check-ready 2 (x .s) (x .store .now) (sym (d .before .check .ensures) ∙ d .if1 .left) .1
+put-each-requires : tie.Need-put-each-requires
+put-each-requires c κs =
+    let d = c .before .before .before .before .before .before .before in
+    let b = d .before in
+    let x = b .before .before .before .args in
+    check-ready width (x .s) (x .store .now) (sym (b .check .ensures) ∙ d .if1 .left) .1
 
 returns-2 : tie.Need-returns-2
-unfolding checkOf acceptance
+unfolding checkOf acceptance takeAll putAll writeAll
 returns-2 c =
     let p = c .before .before in
-    let a = p .before .before .before in
-    let d = a .before .before .before in
-    let x = d .before .before .before .before .args in
-    let e : agrees (takeAll width tag (x .s) (x .store .now)) ≡ true = sym (ap agrees (a .before .take-all .ensures)) ∙ sym (a .agrees .ensures) ∙ p .before .before .if2 .taken in
-    rw (call-done _ (x .s) (x .store .now) _ _ (sym (d .before .check .ensures) ∙ d .if1 .left), e)
-    (ap₂ (λ s m. seen 0 Accept s m _) (p .put-all .ensures .0) (p .put-all .ensures .1))
+    let o = p .before .before in
+    let a = o .before .before in
+    let d = a .before .before .before .before in
+    let b = d .before in
+    let x = b .before .before .before .args in
+    let m = x .s .marks in
+    let e : agrees (takeEach width tag m (x .s) (x .store .now)) ≡ true = sym (ap agrees (a .before .take-each .ensures)) ∙ sym (a .agrees .ensures) ∙ o .before .if2 .taken in
+    rw (call-done _ (x .s) (x .store .now) _ _ (sym (b .check .ensures) ∙ d .if1 .left), e)
+    (ap₂ (λ s m. seen 0 Accept s m _) (p .put-each .ensures .0 ∙ ap (λ s. putEach width tag m s (x .store .now)) (o .opened .ensures)) (p .put-each .ensures .1))
 
 returns-3 : tie.Need-returns-3
-unfolding checkOf rejection
+unfolding checkOf rejection takeAll
 returns-3 c =
     let a = c .before .before in
-    let d = a .before .before .before in
-    let x = d .before .before .before .before .args in
-    let e : agrees (takeAll width tag (x .s) (x .store .now)) ≡ false = sym (ap agrees (a .before .take-all .ensures)) ∙ sym (a .agrees .ensures) ∙ c .before .if2 .left in
-    rw (call-done _ (x .s) (x .store .now) _ _ (sym (d .before .check .ensures) ∙ d .if1 .left), e)
+    let d = a .before .before .before .before in
+    let b = d .before in
+    let x = b .before .before .before .args in
+    let e : agrees (takeEach width tag (x .s .marks) (x .s) (x .store .now)) ≡ false = sym (ap agrees (a .before .take-each .ensures)) ∙ sym (a .agrees .ensures) ∙ c .before .if2 .left in
+    rw (call-done _ (x .s) (x .store .now) _ _ (sym (b .check .ensures) ∙ d .if1 .left), e)
     (ap (λ s. seen 0 Reject s (x .store .now) _) (c .shut .ensures))
 
 pub check-spec : {M : Type 1} → statement M
@@ -56,9 +62,10 @@ check-spec =
     (λ c κs. search needs)
     (λ c. search needs)
     returns
-    take-all-requires
+    take-each-requires
     (λ c κs. search needs)
-    put-all-requires
+    (λ c κs. search needs)
+    put-each-requires
     (λ c. search needs)
     returns-2
     (λ c κs. search needs)
