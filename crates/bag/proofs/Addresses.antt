@@ -1,23 +1,24 @@
 -- An event at each address of a list, as the takes and the puts of a check are: each is at its own address, so what is held at the others is as it was. And
 -- the addresses in use are such a list, none of them twice. Assumes nothing.
 use mathlib.Core.Path.{_≡_, refl, sym, ap, _∙_, subst}
-use mathlib.Core.Bool.{Bool, true, false, cond, _||_, false≢true, or-false, or-true}
-use mathlib.Core.List.{List, [], _∷_, _++_, map, append-nil}
+use mathlib.Core.Bool.{Bool, true, false, cond, _||_, false≢true, or-true}
+use mathlib.Core.List.{List, [], _∷_, map, List·Memᴰ, List·Memᴰ·head, List·Memᴰ·tail, List·Memᴰ·not-nil, List·Memᴰ·cases-cons}
 use mathlib.Core.Option.{Option, none, some}
-use mathlib.Core.Logic.{_≢_}
-use Prim.Native.Nat.{ℕ, zero, suc, _≤_, _<_}
+use mathlib.Core.Logic.{⊎-elim}
+use Prim.Native.Nat.{ℕ}
 use native.Mathlib.Omega.{arith}
-use lib.Dec.{eqb, ltb}
+use lib.Dec.{eqb}
 use lib.ListN.{length}
-use borrow.Author.Tests.{eqb-true, eqb-false, eq-eqb, ne-eqb, ltb-true, ltb-false}
+use borrow.Author.Tests.{eqb-true, eq-eqb, ne-eqb}
 use Rattle.state.specs.Sizes.{addresses}
 use Rattle.state.specs.Marks.{used, usedBelow, inUse}
 use Rattle.state.specs.Cells.{Entry}
 use Rattle.state.specs.Step.{Event, took}
+use Rattle.state.specs.Effects.{Rising}
 use Rattle.state.proofs.Marks.{used-below}
+use Rattle.state.proofs.InUse.{in-use-only, in-use-all, in-use-rising}
 use Rattle.bag.specs.Bag.{Bag, upd, noted, follow}
 use Rattle.bag.specs.Law.{Along, Right}
-use Rattle.bag.proofs.Cases.{neither, by-cond}
 use Rattle.bag.proofs.Orderly.{upd-same, upd-other}
 
 -- is the address in the list
@@ -69,66 +70,39 @@ right-each e at (c ∷ cs) b (h, r) a k = go (eqb a c) refl (right-each e at cs 
 
 -- ---- the addresses in use
 
-among-last : (a : ℕ) (cs : List ℕ) (c : ℕ) → among a (cs ++ (c ∷ [])) ≡ (among a cs || eqb a c)
+among-member : (a : ℕ) (cs : List ℕ) → among a cs ≡ true → List·Memᴰ a cs
 unfolding among
-among-last a [] c = or-false (eqb a c)
-among-last a (d ∷ cs) c = go (eqb a d) (among-last a cs c)
+among-member a [] k = absurd (false≢true k)
+among-member a (c ∷ cs) k = go (eqb a c) refl (among-member a cs) k
   where
-    go : (t : Bool) → among a (cs ++ (c ∷ [])) ≡ (among a cs || eqb a c) → (t || among a (cs ++ (c ∷ []))) ≡ ((t || among a cs) || eqb a c)
-    go true h = refl
-    go false h = h
+    go : (t : Bool) → eqb a c ≡ t → (among a cs ≡ true → List·Memᴰ a cs) → (t || among a cs) ≡ true → List·Memᴰ a (c ∷ cs)
+    go true q ih k = List·Memᴰ·head (eqb-true a c q)
+    go false q ih k = List·Memᴰ·tail (ih k)
 
-distinct-last : (cs : List ℕ) (c : ℕ) → Distinct cs → among c cs ≡ false → Distinct (cs ++ (c ∷ []))
-unfolding among Distinct
-distinct-last [] c d n = (refl, tt)
-distinct-last (x ∷ cs) c (m, d) n =
-    let k = neither (eqb c x) (among c cs) n in
-    (among-last x cs c ∙ rw (m, ne-eqb x c (λ e. eqb-false c x (k .0) (sym e))), distinct-last cs c d (k .1))
+member-among : (a : ℕ) (cs : List ℕ) → List·Memᴰ a cs → among a cs ≡ true
+unfolding among
+member-among a [] m = absurd (List·Memᴰ·not-nil m)
+member-among a (c ∷ cs) m = ⊎-elim (λ q. rw (eq-eqb a c q)) (λ k. rw (member-among a cs k, or-true)) (List·Memᴰ·cases-cons m)
+
+rising-distinct : (cs : List ℕ) → Rising cs → Distinct cs
+unfolding Distinct
+rising-distinct [] r = tt
+rising-distinct (c ∷ cs) (r, rs) = (go (among c cs) refl, rising-distinct cs rs)
+  where
+    go : (t : Bool) → among c cs ≡ t → among c cs ≡ false
+    go true q = absurd (omega (arith, r c (among-member c cs q)))
+    go false q = q
 
 module _ (ws : List ℕ) where
-  among-high : (n a : ℕ) → n ≤ a → among a (usedBelow ws n) ≡ false
-  unfolding usedBelow among
-  among-high zero a h = refl
-  among-high (suc n) a h =
-      let ih = among-high n a (omega arith) in
-      by-cond (λ (l : List ℕ). among a (usedBelow ws n ++ l) ≡ false) (used ws n)
-      (λ u. among-last a (usedBelow ws n) n ∙ rw (ih, ne-eqb a n (λ e. omega arith)))
-      (λ u. rw (append-nil (usedBelow ws n)) ih)
-
-  among-low : (n a : ℕ) → a < n → among a (usedBelow ws n) ≡ used ws a
-  unfolding usedBelow
-  among-low zero a h = absurd (omega arith)
-  among-low (suc n) a h = go (eqb a n) refl (among-low n a)
-    where
-      go : (t : Bool) → eqb a n ≡ t → (a < n → among a (usedBelow ws n) ≡ used ws a) → among a (usedBelow ws n ++ cond (used ws n) (n ∷ []) []) ≡ used ws a
-      go true q ih =
-          let e : a ≡ n = eqb-true a n q in
-          by-cond (λ (l : List ℕ). among a (usedBelow ws n ++ l) ≡ used ws a) (used ws n)
-          (λ u. among-last a (usedBelow ws n) n ∙ rw (q, or-true, e) (sym u))
-          (λ u. rw (append-nil (usedBelow ws n)) (among-high n a (omega arith)) ∙ sym (ap (used ws) e ∙ u))
-      go false q ih =
-          let d : a ≢ n = eqb-false a n q in
-          by-cond (λ (l : List ℕ). among a (usedBelow ws n ++ l) ≡ used ws a) (used ws n)
-          (λ u. among-last a (usedBelow ws n) n ∙ rw (q, or-false) (ih (omega arith)))
-          (λ u. rw (append-nil (usedBelow ws n)) (ih (omega arith)))
-
-  distinct-below : (n : ℕ) → Distinct (usedBelow ws n)
-  unfolding usedBelow Distinct
-  distinct-below zero = tt
-  distinct-below (suc n) =
-      by-cond (λ (l : List ℕ). Distinct (usedBelow ws n ++ l)) (used ws n)
-      (λ u. distinct-last (usedBelow ws n) n (distinct-below n) (among-high n n (omega arith)))
-      (λ u. rw (append-nil (usedBelow ws n)) (distinct-below n))
-
   pub in-use : length ws ≡ 16 → (a : ℕ) → among a (inUse ws) ≡ used ws a
   unfolding inUse
-  in-use sixteen a = go (ltb a addresses) refl (used ws a) refl
+  in-use sixteen a = go (among a (usedBelow ws addresses)) refl (used ws a) refl
     where
-      go : (t : Bool) → ltb a addresses ≡ t → (u : Bool) → used ws a ≡ u → among a (usedBelow ws addresses) ≡ used ws a
-      go true h u e = among-low addresses a (ltb-true a addresses h)
-      go false h true e = among-low addresses a (used-below ws a sixteen e)
-      go false h false e = among-high addresses a (ltb-false a addresses h) ∙ sym e
+      go : (t : Bool) → among a (usedBelow ws addresses) ≡ t → (u : Bool) → used ws a ≡ u → among a (usedBelow ws addresses) ≡ used ws a
+      go true q u e = q ∙ sym (in-use-only ws addresses a (among-member a (usedBelow ws addresses) q) .1)
+      go false q true e = member-among a (usedBelow ws addresses) (in-use-all ws addresses a (used-below ws a sixteen e) e) ∙ sym e
+      go false q false e = q ∙ sym e
 
   pub in-use-distinct : Distinct (inUse ws)
   unfolding inUse
-  in-use-distinct = distinct-below addresses
+  in-use-distinct = rising-distinct (usedBelow ws addresses) (in-use-rising ws addresses)

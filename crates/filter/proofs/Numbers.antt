@@ -1,12 +1,12 @@
 -- Each row tests its condition of the table, and what a refusal gives is written in the calls' definitions. Assumes nothing.
 use mathlib.Core.Path.{_≡_, refl}
-use mathlib.Core.Bool.{Bool, true, false, not, _&&_, false≢true}
-use mathlib.Core.List.{List, [], _∷_}
+use mathlib.Core.Bool.{true, false, not, _&&_, false≢true}
+use mathlib.Core.List.{List, _∷_}
 use mathlib.Core.Logic.{_≢_}
 use Prim.Native.Nat.{ℕ}
-use lib.Dec.{eqb, leb}
+use lib.Dec.{leb}
 use lib.ListN.{length}
-use borrow.Author.Tests.{eqb-true, eqb-false, le-leb, not-true, not-false}
+use borrow.Author.Tests.{le-leb}
 use Rattle.refusal.specs.Refusal.{when, first}
 use Rattle.refusal.specs.Cases.{given}
 use Rattle.refusal.proofs.Cases.{Tests, TestsAll, equal, differ, first-of}

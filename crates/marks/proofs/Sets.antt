@@ -4,12 +4,12 @@ use mathlib.Core.Bool.{Bool, true, false, cond, not}
 use mathlib.Core.List.{List, [], _∷_, _++_}
 use mathlib.Core.Logic.{⊎-elim, _↔_}
 use Prim.Native.Nat.{ℕ, zero, suc, _+_, _-_, _≤_, _<_}
-use native.Mathlib.Nat.{eq-or-lt-of-le, le-of-suc-le-suc, not-suc-le-zero}
+use native.Mathlib.Nat.{eq-or-lt-of-le}
 use native.Mathlib.Omega.{arith}
 use lib.ListN.{length, length-append}
 use borrow.Author.Tests.{eq-eqb, ne-eqb, not-true, not-false}
 use Rattle.state.specs.Sizes.{addresses}
-use Rattle.state.specs.Marks.{used, usedBelow, countBelow, countOf, firstFrom, lowestFree}
+use Rattle.state.specs.Marks.{used, usedBelow, countBelow, firstFrom, lowestFree}
 use Rattle.state.specs.Moves.{lowestOf, freeNumber}
 use Rattle.state.specs.declared.Free.the-variants.{At, Full}
 use Rattle.marks.specs.Next.{nextUsed}

@@ -7,7 +7,7 @@ use mathlib.Core.Option.{none, some}
 use Prim.Native.Nat.{ℕ, zero, suc, _<_}
 use native.Mathlib.Omega.{arith}
 use lib.ListN.{length}
-use Rattle.refusal.specs.Refusal.{first, done}
+use Rattle.refusal.specs.Refusal.{first}
 use Rattle.refusal.specs.Cases.{given, FirstOf}
 use Rattle.refusal.proofs.Cases.{TestsAll, above, differ, either, first-of}
 use Rattle.refusal.proofs.Passed.{done-other}
@@ -17,8 +17,7 @@ use Rattle.state.specs.Sizes.{addresses}
 use Rattle.state.specs.Marks.{used, inUse, countOf}
 use Rattle.state.specs.Step.{Seen}
 use Rattle.state.specs.Moves.{lowestOf, freeNumber, freeAddress}
-use Rattle.state.specs.Check.{verdictNumber, verdictAccepts, checkOf}
-use Rattle.state.specs.Table.{Marked, Table}
+use Rattle.state.specs.Check.{verdictNumber, verdictAccepts}
 use Rattle.state.specs.declared.State.{State}
 use Rattle.state.specs.declared.Free.{Free}
 use Rattle.state.specs.declared.Free.the-variants.{At, Full as AllUsed}

@@ -1,5 +1,5 @@
 -- Each contract of a call under a C name is the claim, by computation. Assumes nothing.
-use mathlib.Core.Path.{refl, ap, _∙_}
+use mathlib.Core.Path.{refl, _∙_}
 use Rattle.refusal.proofs.Passed.{done-zero, done-other}
 use Rattle.state.specs.Sizes.{addresses, valueSize, cellSize, storeSize, width}
 use Rattle.state.proofs.Ready.{look-done}

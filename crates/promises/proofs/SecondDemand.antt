@@ -1,9 +1,8 @@
 -- Each clause is proved where its definitions stand. Assumes nothing.
-use mathlib.Core.Path.{_≡_, refl, sym, ap, _∙_}
-use mathlib.Core.List.{List, [], _∷_, _++_, map, foldl, append-nil}
-use Prim.Native.Nat.{ℕ, _%_, _^_, _≤_}
-use native.Mathlib.Omega.{arith}
-use lib.ListN.{length, replicate}
+use mathlib.Core.Path.{_≡_, refl}
+use mathlib.Core.List.{List}
+use Prim.Native.Nat.{ℕ, _≤_}
+use lib.ListN.{length}
 use borrow.Author.Tests.{eq-eqb, le-ltb}
 use Rattle.refusal.specs.Refusal.{filled}
 use Rattle.constants.proofs.Rule.{K-rule, H0-rule}

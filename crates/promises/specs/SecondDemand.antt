@@ -5,7 +5,7 @@
 -- `sha256`, `hmac` and the layout of a filter record are definitions, in the standards' and the rules' order; here they are what the library's calls give.
 -- Assumes nothing.
 use mathlib.Core.Path.{_≡_}
-use mathlib.Core.List.{List, [], _∷_, _++_, map, foldl}
+use mathlib.Core.List.{List, _∷_, _++_, map, foldl}
 use Prim.Native.Nat.{ℕ, _%_, _≤_}
 use lib.ListN.{length, replicate}
 use Rattle.octets.specs.Layout.{bytes}

@@ -2,7 +2,7 @@
 -- the call's arguments. A contract, as the toolchain reads it, is `Learnt`: of the arguments a, the result r, and the last values e of what is lent to be written.
 -- Lent bytes are told by `now`, and where they lie by `ptr`. Assumes nothing.
 use mathlib.Core.Path.{_≡_}
-use mathlib.Core.List.{List, []}
+use mathlib.Core.List.{[]}
 use contract.Lifetimes.{Lfts}
 use denote.Ref.{ptr, now}
 use denote.Triple.Entry.{Args, Res}
