@@ -39,5 +39,5 @@ pub fn message(a: u16, value: [u8; State::VALUE], stamp: u16) -> [u8; MESSAGE]
 pub fn tag(key: [u8; State::KEY], a: u16, value: [u8; State::VALUE], stamp: u16) -> [u8; State::TAG]
     ensures { λ r. ⌜ r ≡ tagOf width key (entry a value stamp) ⌝ }
 {
-    hmac::tag(key, message(a, value, stamp))
+    hmac::tag(key, &message(a, value, stamp))
 }

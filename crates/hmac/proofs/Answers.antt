@@ -1,22 +1,32 @@
--- What `mac` gives, by the sizes of what it is given. Assumes nothing.
+-- What `mac` and `tag` give, by the sizes of what they are given. Assumes nothing.
 use mathlib.Core.Path.{_≡_, sym, _∙_}
 use mathlib.Core.Bool.{Bool, true, false, _||_, or-true}
 use mathlib.Core.List.{List}
 use Prim.Native.Nat.{ℕ, _<_, _≤_}
 use lib.Dec.{ltb}
-use lib.ListN.{length}
-use borrow.Author.Tests.{lt-ltb, le-ltb}
+use lib.ListN.{length, replicate}
+use borrow.Author.Tests.{lt-ltb, le-ltb, le-leb, lt-leb}
 use Rattle.lent.specs.Lent.{copied}
 use Rattle.refusal.specs.Refusal.{filled}
 use Rattle.sha256.specs.Sha256.{not32}
 use Rattle.sha256.proofs.Answers.{fills-refused, fills-done, not32-holds, not32-fails}
 use Rattle.sha256.proofs.Output.{sha256-length}
-use Rattle.hmac.specs.Hmac.{hmac, macOf}
+use Rattle.hmac.specs.Hmac.{hmac, macOf, tagWithin}
 
 -- an HMAC has 32 bytes
 pub hmac-length : (key text : List ℕ) → length (hmac key text) ≡ 32
 unfolding hmac
 hmac-length key text = sha256-length _
+
+-- a tag is the message's HMAC up to the bound, and zeros above it
+module _ (key text : List ℕ) where
+  pub tag-short : length text ≤ 4096 → tagWithin key text ≡ hmac key text
+  unfolding tagWithin
+  tag-short h = rw (le-leb (length text) 4096 h)
+
+  pub tag-long : 4096 < length text → tagWithin key text ≡ replicate 32 0
+  unfolding tagWithin
+  tag-long h = rw (lt-leb (length text) 4096 h)
 
 module _ (key text out : List ℕ) where
   abbrev outside : Bool

@@ -3,7 +3,7 @@
 use mathlib.Core.Bool.{cond, _||_}
 use mathlib.Core.List.{List, [], _∷_, _++_}
 use Prim.Native.Nat.{ℕ, _-_}
-use lib.Dec.{ltb}
+use lib.Dec.{ltb, leb}
 use lib.ListN.{length, replicate}
 use Rattle.octets.specs.Places.{xor}
 use Rattle.refusal.specs.Refusal.{Row, when, Filled, fills}
@@ -47,3 +47,7 @@ macRows key text out = when 10 (ltb 1024 (length key) || ltb 4096 (length text) 
 
 unfoldable pub macOf : List ℕ → List ℕ → List ℕ → Filled
 macOf key text out = fills (macRows key text out) (hmac key text) out
+
+-- the tag of a message under a key: its HMAC, and zeros for a message that is too long
+unfoldable pub tagWithin : List ℕ → List ℕ → List ℕ
+tagWithin key text = cond (leb (length text) 4096) (hmac key text) (replicate 32 0)

@@ -6,7 +6,7 @@ ghost use Rattle.constants.specs.Constants.{H0};
 ghost use Rattle.octets.specs.Places.{xor};
 ghost use Rattle.refusal.specs.Refusal.{filled};
 ghost use Rattle.sha256.specs.Sha256.{absorbed, hashBytes, finished};
-ghost use Rattle.hmac.specs.Hmac.{ipad, opad, zeroFilled, keyBlock, hmac, macOf};
+ghost use Rattle.hmac.specs.Hmac.{ipad, opad, zeroFilled, keyBlock, macOf, tagWithin};
 
 // The bytes of k, and zeros to 64.
 fn zero_filled(k: &[u8]) -> [u8; 64]
@@ -76,11 +76,12 @@ fn hash_from(inner: [u32; 8], outer: [u32; 8], text: &[u8]) -> [u32; 8]
     sha256::finish(outer, 1, &d)
 }
 
-// The tag of a message of 33 bytes by the two hashes after a key's blocks.
-fn tag_from(inner: [u32; 8], outer: [u32; 8], message: [u8; 33]) -> [u8; 32]
-    ensures { λ r. ⌜ r ≡ hashBytes (finished outer 1 (hashBytes (finished inner 1 message))) ⌝ }
+// The tag of a message by the two hashes after a key's blocks.
+fn tag_from(inner: [u32; 8], outer: [u32; 8], message: &[u8]) -> [u8; 32]
+    requires { ⌜ length (now message) ≤ 4096 ⌝ }
+    ensures { λ r. ⌜ r ≡ hashBytes (finished outer 1 (hashBytes (finished inner 1 (now (message .entry))))) ⌝ }
 {
-    let h = hash_from(inner, outer, &message);
+    let h = hash_from(inner, outer, message);
     sha256::hash_bytes(h)
 }
 
@@ -104,10 +105,13 @@ pub fn mac(key: &[u8], message: &[u8], out: &mut [u8]) -> u8
     0
 }
 
-// The HMAC of a message of 33 bytes under a key of 32.
-pub fn tag(key: [u8; 32], message: [u8; 33]) -> [u8; 32]
-    ensures { λ r. ⌜ r ≡ hmac key message ⌝ }
+// The HMAC of a message under a key of 32 bytes; zeros where the message has more than 4,096.
+pub fn tag(key: [u8; 32], message: &[u8]) -> [u8; 32]
+    ensures { λ r. ⌜ r ≡ tagWithin key (now (message .entry)) ⌝ }
 {
-    let b = zero_filled(&key);
-    tag_from(inner_hash(b), outer_hash(b), message)
+    if message.len() <= 4096 {
+        let b = zero_filled(&key);
+        return tag_from(inner_hash(b), outer_hash(b), message);
+    }
+    [0u8; 32]
 }

@@ -90,7 +90,7 @@ fn print_tag(words: &[u8], tag: [u8; 32]) {
 pub fn tags() {
     print_tag(
         b"tag under 32 of 33: ",
-        hmac::tag([0xccu8; 32], [0xaau8; 33]),
+        hmac::tag([0xccu8; 32], &[0xaau8; 33]),
     );
     print_tag(
         b"tag of an entry: ",

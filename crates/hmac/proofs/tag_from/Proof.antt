@@ -10,7 +10,6 @@ pub tag-from-spec : {M : Type 1} → statement M
 tag-from-spec =
     tie.close
     (tie.spec
-    (λ c. search needs)
     (λ c κs. search needs)
     (λ c κs. search needs)
     returns)
