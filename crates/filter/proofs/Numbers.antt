@@ -3,7 +3,7 @@ use mathlib.Core.Path.{_≡_, refl}
 use mathlib.Core.Bool.{true, false, not, _&&_, false≢true}
 use mathlib.Core.List.{List, _∷_}
 use mathlib.Core.Logic.{_≢_}
-use Prim.Native.Nat.{ℕ}
+use Prim.Native.Nat.{ℕ, _≤_}
 use lib.Dec.{leb}
 use lib.ListN.{length}
 use borrow.Author.Tests.{le-leb}
@@ -12,17 +12,27 @@ use Rattle.refusal.specs.Cases.{given}
 use Rattle.refusal.proofs.Cases.{Tests, TestsAll, equal, differ, first-of}
 use Rattle.refusal.proofs.Passed.{done-other}
 use Rattle.filter.specs.Filter.{topOf, spareIn, filterIn, bytesOf, setPast, filterRows, packRows, unpackRows, packOf, unpackOf, zeroFilter}
-use Rattle.filter.specs.Promises.{Ordered, Clear, unlawful, Numbers}
+use Rattle.filter.specs.Promises.{Within, Ordered, Clear, unlawful, Numbers}
+use Rattle.filter.specs.declared.Family.{Family}
+use Rattle.filter.specs.declared.Family.the-variants.{Ipv4, Ipv6}
 use Rattle.filter.specs.declared.FilterRecord.{FilterRecord}
 use Rattle.filter.proofs.Past.{past-bits, bits-past}
 use Rattle.filter.proofs.Lawful.{both-lengths}
 use Rattle.filter.proofs.Trips.{prefix-length, filterIn-fit}
 
+pub within-top : (f : Family) (n : ℕ) → Within f n → n ≤ topOf f
+within-top Ipv4 n h = h
+within-top Ipv6 n h = h
+
+top-within : (f : Family) (n : ℕ) → n ≤ topOf f → Within f n
+top-within Ipv4 n h = h
+top-within Ipv6 n h = h
+
 ordered : (r : FilterRecord) → Tests (when 13 (not (leb (r .length) (r .longest) && leb (r .longest) (topOf (r .family))))) (given 13 (¬ Ordered r))
 ordered r = record {
   number = refl;
-  yes = λ e h. false≢true (let z = le-leb _ _ (h .0) in let y = le-leb _ _ (h .1) in rw (z, y) at e);
-  no = λ e h. h (both-lengths r e);
+  yes = λ e h. false≢true (let z = le-leb _ _ (h .0) in let y = le-leb _ _ (within-top (r .family) (r .longest) (h .1)) in rw (z, y) at e);
+  no = λ e h. let b = both-lengths r e in h (b .0, top-within (r .family) (r .longest) (b .1));
 }
 
 module _ (r : FilterRecord) (n : length (r .prefix) ≡ 16) where

@@ -10,15 +10,20 @@ use Prim.Native.Nat.{ℕ, _<_, _≤_}
 use lib.ListN.{length, replicate}
 use Rattle.refusal.specs.Refusal.{Filled, filled}
 use Rattle.refusal.specs.Cases.{Case, given, FirstOf}
-use Rattle.filter.specs.Filter.{topOf, bit, spareIn, filterIn, FieldsFit, BytesFit, Lawful, LawfulBytes, unpacked}
-use Rattle.filter.specs.declared.Family.the-variants.{Ipv4}
+use Rattle.filter.specs.Filter.{bit, spareIn, filterIn, FieldsFit, BytesFit, Lawful, LawfulBytes, unpacked}
+use Rattle.filter.specs.declared.Family.{Family}
+use Rattle.filter.specs.declared.Family.the-variants.{Ipv4, Ipv6}
 use Rattle.filter.specs.declared.Action.the-variants.{Deny}
 use Rattle.filter.specs.declared.FilterRecord.{FilterRecord}
 use Rattle.filter.specs.declared.Unpacked.{Unpacked}
 
 -- the lengths in order and within the family's, and no bit set past the prefix length
+abbrev pub Within : Family → ℕ → Type 0
+Within Ipv4 n = n ≤ 32
+Within Ipv6 n = n ≤ 128
+
 abbrev pub Ordered : FilterRecord → Type 0
-Ordered r = (r .length ≤ r .longest) × (r .longest ≤ topOf (r .family))
+Ordered r = (r .length ≤ r .longest) × Within (r .family) (r .longest)
 
 abbrev pub Clear : FilterRecord → Type 0
 Clear r = (i : ℕ) → r .length ≤ i → i < 128 → bit (r .prefix) i ≡ 0

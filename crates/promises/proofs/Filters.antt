@@ -12,6 +12,7 @@ use Rattle.filter.specs.Filter.{topOf, FieldsFit, partsIn, spareIn, filterIn, b
 use Rattle.filter.specs.declared.Family.{Family}
 use Rattle.filter.specs.declared.Action.{Action}
 use Rattle.promises.specs.Filters.{permit, unequal, ExampleUnequal, ExampleHost, Example6, Example7, Example8, Example9, Example10, deny11, Example11, zeros, ZerosLawful}
+use Rattle.filter.proofs.Numbers.{within-top}
 use Rattle.filter.proofs.Calls.{pack-refused, pack-done}
 use Rattle.filter.proofs.Fields.{written, front-number, word-of}
 
@@ -74,4 +75,4 @@ unfolding filterRows setPast number join total
 zeros-rows f x l a h p = simp (le-leb 0 l (omega arith), le-leb l (topOf f) h, ne-eqb a 0 (λ e. omega arith))
 
 pub zeros-lawful : ZerosLawful packOf
-zeros-lawful f x l a h p out e = sym (ap (λ (x : Filled). x .number) (pack-done (zeros f x l a) out e (zeros-rows f x l a h p)))
+zeros-lawful f x l a h p out e = sym (ap (λ (x : Filled). x .number) (pack-done (zeros f x l a) out e (zeros-rows f x l a (within-top f l h) p)))

@@ -5,7 +5,8 @@ use mathlib.Core.List.{List, [], _∷_, _++_}
 use Prim.Native.Nat.{ℕ, _^_, _<_, _≤_}
 use lib.ListN.{length, take, set, replicate}
 use Rattle.refusal.specs.Refusal.{Filled, filled}
-use Rattle.filter.specs.Filter.{topOf, bytesOf, unpacked, zeroFilter}
+use Rattle.filter.specs.Filter.{bytesOf, unpacked, zeroFilter}
+use Rattle.filter.specs.Promises.{Within}
 use Rattle.filter.specs.declared.Family.{Family}
 use Rattle.filter.specs.declared.Family.the-variants.{Ipv4, Ipv6}
 use Rattle.filter.specs.declared.Action.{Action}
@@ -49,7 +50,7 @@ module _ (p : FilterRecord → List ℕ → Filled) where
 
   -- pack takes what is zero and lawful
   abbrev pub ZerosLawful : Type 0
-  ZerosLawful = (f : Family) (x : Action) (l a : ℕ) → l ≤ topOf f → 0 < a → (out : List ℕ) → length out ≡ 28 → p (zeros f x l a) out .number ≡ 0
+  ZerosLawful = (f : Family) (x : Action) (l a : ℕ) → Within f l → 0 < a → (out : List ℕ) → length out ≡ 28 → p (zeros f x l a) out .number ≡ 0
 
 abbrev pub Example7 : (List ℕ → Unpacked) → Type 0
 Example7 u = u (set bytes6 3 0x01) ≡ unpacked 12 zeroFilter
