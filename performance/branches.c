@@ -1,28 +1,11 @@
 /* Makes the calls of one part, with the key marked as not defined; performance/branches runs it under memcheck. It ends with status 1 where an answer is not
    the one that is expected: then the part does not try what it says. */
-#include <stdint.h>
 #include <stdio.h>
 #include <stdlib.h>
 #include <string.h>
 #include <valgrind/memcheck.h>
 
-enum { KEY = 32, VALUE = 28, CELL = 30, STORE = 30720, ACCEPT = 0, REJECT = 1 };
-
-/* ---- the calls, as they are compiled */
-struct hash { uint8_t tag[32]; uint32_t number; };
-struct state { uint8_t key[KEY]; struct hash put, take; uint16_t clock; uint8_t fault, closed; uint64_t marks[16]; };
-struct answer { uint8_t number, verdict; struct state state; };
-struct part { const void *at; size_t length; };
-
-extern uint8_t speed_digest(const uint8_t *message, size_t, uint8_t *out, size_t);
-extern uint8_t speed_mac(const uint8_t *key, size_t, const uint8_t *message, size_t, uint8_t *out, size_t);
-extern void speed_tag(const uint8_t *key, const uint8_t *message, uint8_t *out);
-extern void state_State_start(struct answer *, const struct part *key);
-extern void store_add(struct answer *, const struct state *, const struct part *store, size_t a, const struct part *value);
-extern void store_load(struct answer *, const struct state *, const struct part *store, size_t a, const struct part *out);
-extern void store_store(struct answer *, const struct state *, const struct part *store, size_t a, const struct part *value);
-extern void store_remove(struct answer *, const struct state *, const struct part *store, size_t a);
-extern void store_check(struct answer *, const struct state *, const struct part *store);
+#include "pintlecup.h"
 
 static void must(int holds, const char *what)
 {
@@ -32,10 +15,10 @@ static void must(int holds, const char *what)
     }
 }
 
-/* The answer is public: it must not hang on secret bytes. */
-static void gives(uint8_t number, uint8_t expected, const char *what)
+/* An answer that must not hang on secret bytes. */
+static void gives(uint8_t answer, uint8_t expected, const char *what)
 {
-    must(VALGRIND_CHECK_MEM_IS_DEFINED(&number, 1) == 0 && number == expected, what);
+    must(VALGRIND_CHECK_MEM_IS_DEFINED(&answer, 1) == 0 && answer == expected, what);
 }
 
 static uint8_t *secret(size_t length)
@@ -47,128 +30,129 @@ static uint8_t *secret(size_t length)
 }
 
 /* ---- a store under a secret key */
-static uint8_t cells[STORE];
-static uint8_t value[VALUE], loaded[VALUE];
-static const struct part store = {cells, STORE}, in = {value, VALUE}, to = {loaded, VALUE};
-static struct answer got;
+static pintlecup_state state;
+static uint8_t cells[PINTLECUP_STORE_BYTES], value[PINTLECUP_VALUE_BYTES], out[PINTLECUP_VALUE_BYTES];
 
 static void start(void)
 {
-    struct part key = {secret(KEY), KEY};
-    memset(cells, 0, STORE);
-    state_State_start(&got, &key);
-    gives(got.number, 0, "start");
+    uint8_t *key = secret(PINTLECUP_KEY_BYTES);
+    memset(cells, 0, sizeof cells);
+    gives(pintlecup_start(&state, key, PINTLECUP_KEY_BYTES), 0, "start");
+    free(key);
 }
 
-static void add(size_t a, uint8_t number)
+static void add(size_t a, uint8_t answer)
 {
-    struct state s = got.state;
-    memset(value, (int)a, VALUE);
-    store_add(&got, &s, &store, a, &in);
-    gives(got.number, number, "add");
+    memset(value, (int)a, sizeof value);
+    gives(pintlecup_add(&state, cells, sizeof cells, a, value, sizeof value), answer, "add");
 }
 
-static void load(size_t a, uint8_t number)
+static void load(size_t a, uint8_t answer)
 {
-    struct state s = got.state;
-    store_load(&got, &s, &store, a, &to);
-    gives(got.number, number, "load");
+    gives(pintlecup_load(&state, cells, sizeof cells, a, out, sizeof out), answer, "load");
 }
 
-static void put(size_t a, uint8_t number)
+static void store(size_t a, uint8_t answer)
 {
-    struct state s = got.state;
-    memset(value, 0x77, VALUE);
-    store_store(&got, &s, &store, a, &in);
-    gives(got.number, number, "store");
+    memset(value, 0x77, sizeof value);
+    gives(pintlecup_store(&state, cells, sizeof cells, a, value, sizeof value), answer, "store");
 }
 
-static void drop(size_t a, uint8_t number)
+static void removes(size_t a, uint8_t answer)
 {
-    struct state s = got.state;
-    store_remove(&got, &s, &store, a);
-    gives(got.number, number, "remove");
+    gives(pintlecup_remove(&state, cells, sizeof cells, a), answer, "remove");
 }
 
-static void check(uint8_t number, uint8_t verdict)
+static void check(size_t size, uint8_t answer)
 {
-    struct state s = got.state;
-    store_check(&got, &s, &store);
-    gives(got.number, number, "check");
-    if (number == 0)
-        gives(got.verdict, verdict, "verdict");
+    gives(pintlecup_check(&state, cells, size), answer, "check");
+}
+
+/* The answer hangs on secret bytes, and is public: it is marked as defined where it is read. */
+static void verdict(uint8_t expected)
+{
+    uint8_t answer = pintlecup_check(&state, cells, sizeof cells);
+    (void)VALGRIND_MAKE_MEM_DEFINED(&answer, 1);
+    must(answer == expected, "verdict");
 }
 
 /* Work of every kind, done and refused, at addresses of several words of marks. */
 static void work(void)
 {
+    size_t lowest;
     start();
-    for (size_t a = 0; a < 1024; a += 31)
+    for (size_t a = 0; a < PINTLECUP_ADDRESSES; a += 31)
         add(a, 0);
-    add(31, 4);
-    add(1024, 2);
+    add(31, PINTLECUP_IN_USE);
+    add(1024, PINTLECUP_BAD_ADDRESS);
     load(62, 0);
-    load(63, 5);
-    put(93, 0);
-    put(1, 5);
-    drop(124, 0);
-    drop(124, 5);
+    load(63, PINTLECUP_NOT_IN_USE);
+    store(93, 0);
+    store(1, PINTLECUP_NOT_IN_USE);
+    removes(124, 0);
+    removes(124, PINTLECUP_NOT_IN_USE);
     add(124, 0);
+    check(sizeof cells - 1, PINTLECUP_BAD_STORE);
+    must(pintlecup_count(&state) == 34, "count");
+    gives(pintlecup_lowest_free(&state, &lowest), 0, "lowest free");
+    must(lowest == 1, "lowest free");
 }
 
 /* ---- the parts */
 static void hashes(void)
 {
-    uint8_t out[32], *message = secret(8192), *key = secret(1024), *m33 = secret(33);
+    uint8_t hash[32], *message = secret(8192), *key = secret(1024);
     for (size_t n = 0; n <= 8192; n += n < 200 ? 1 : 799)
-        gives(speed_digest(message, n, out, 32), 0, "digest");
-    gives(speed_digest(message, 32, out, 31), 10, "digest into 31");
+        gives(pintlecup_digest(message, n, hash, 32), 0, "digest");
+    gives(pintlecup_digest(message, 32, hash, 31), PINTLECUP_BAD_SIZE, "digest into 31");
     for (size_t k = 0; k <= 1024; k += k < 130 ? 1 : 149)
         for (size_t n = 0; n <= 4096; n += 127)
-            gives(speed_mac(key, k, message, n, out, 32), 0, "HMAC");
-    speed_tag(key, m33, out);
+            gives(pintlecup_hmac(key, k, message, n, hash, 32), 0, "HMAC");
+    gives(pintlecup_hmac(key, 32, message, 4097, hash, 32), PINTLECUP_BAD_SIZE, "HMAC of 4,097");
 }
 
 static void calls(void)
 {
+    uint8_t *key = secret(PINTLECUP_KEY_BYTES);
     work();
-    cells[CELL * 62 + VALUE] = 0xff; /* a stamp ahead: the fault is marked, and decides */
+    cells[PINTLECUP_CELL_BYTES * 62 + PINTLECUP_VALUE_BYTES] = 0xff; /* a stamp ahead: the fault is marked, and decides */
     load(62, 0);
-    must(got.state.fault, "a fault");
-    check(0, REJECT);
-    check(7, 0);
-    load(62, 7);
+    must(state.fault, "a fault");
+    check(sizeof cells, PINTLECUP_REJECTED);
+    check(sizeof cells, PINTLECUP_CLOSED);
+    load(62, PINTLECUP_CLOSED);
     work();
-    got.state.put.number += 1; /* as if an entry more had been put: the numbers differ, and decide */
-    check(0, REJECT);
+    state.put.number += 1; /* as if an entry more had been put: the numbers differ, and decide */
+    check(sizeof cells, PINTLECUP_REJECTED);
+    gives(pintlecup_start(&state, key, PINTLECUP_KEY_BYTES - 1), PINTLECUP_BAD_KEY, "start");
+    add(0, PINTLECUP_CLOSED);
 }
 
-static void verdict(void)
+static void verdicts(void)
 {
     work();
-    check(0, ACCEPT);
+    verdict(PINTLECUP_DONE);
     load(62, 0);
-    check(0, ACCEPT);
-    for (size_t at = CELL * 62; at < CELL * 62 + VALUE; at += 9) {
+    verdict(PINTLECUP_DONE);
+    for (size_t at = PINTLECUP_CELL_BYTES * 62; at < PINTLECUP_CELL_BYTES * 62 + PINTLECUP_VALUE_BYTES; at += 9) {
         work();
         cells[at] ^= 1; /* a lie that only the tags tell */
         load(62, 0);
-        check(0, REJECT);
-        must(got.state.closed, "a closed state");
+        verdict(PINTLECUP_REJECTED);
+        check(sizeof cells, PINTLECUP_CLOSED);
     }
 }
 
-/* What memcheck must tell of: a comparison of two tags that stops at the first difference. */
+/* What memcheck must tell of: a comparison of two tags that stops at the first difference. An add makes an entry's tag, and the first one of a period is the
+   tag of what was put; nothing was taken, and that tag is zero. */
 static void control(void)
 {
-    uint8_t s[32], t[32], *key = secret(KEY), message[33] = {0};
-    speed_tag(key, message, s);
-    message[0] = 1;
-    speed_tag(key, message, t);
     int i = 0;
-    while (i < 32 && s[i] == t[i])
+    start();
+    add(0, 0);
+    while (i < PINTLECUP_TAG_BYTES && state.put.tag[i] == state.take.tag[i])
         i++;
-    must(i < 32, "tags that differ");
+    must(i < PINTLECUP_TAG_BYTES, "tags that differ");
 }
 
 int main(int count, char **words)
@@ -176,7 +160,7 @@ int main(int count, char **words)
     const char *part = count == 2 ? words[1] : "";
     if (!strcmp(part, "hashes")) hashes();
     else if (!strcmp(part, "calls")) calls();
-    else if (!strcmp(part, "verdict")) verdict();
+    else if (!strcmp(part, "verdict")) verdicts();
     else if (!strcmp(part, "control")) control();
     else return 2;
     return 0;
