@@ -16,7 +16,9 @@ RECORDS = {"Outcomes": "Outcomes : Type 1", "Exports": "Exported : Type 2"}
 TIGHT = ["Tight {0}.ended {0}.Reads.Asked {0}.Reads.Learnt"]
 # of a function that is lent a struct the toolchain writes no `Reads`; that its contract tells something is part of this entry
 LENT = ["TightLent {0}.ended (λ M. {0}.clauses {{M = M}})"]
-LOOK = [
+# whose result is a part of the lent store
+PARTS = ("store::look", "entries::value_part")
+PART = [
     "(κs : Lfts 1) (a : Args {0}.signature κs) (r r′ : Res {0}.signature κs) (e e′ : AtExit {0}.ended κs)"
     " → {0}.Reads.Learnt κs a r e → {0}.Reads.Learnt κs a r′ e′ → (now r ≡ now r′) × (ptr r ≡ ptr r′)",
     "(κs : Lfts 1) (a : Args {0}.signature κs) → {0}.Reads.Asked κs a",
@@ -59,7 +61,7 @@ def main():
         file = "Exports" if crate == "exports" else "Outcomes"
         names, fields = held[file]
         short = [short for whole, short in names if whole == ".".join((crate, "proofs", *inner))]
-        forms = LOOK if path == "store::look" else LENT if tells is None else TIGHT
+        forms = PART if path in PARTS else LENT if tells is None else TIGHT
         mine = [[name for name, of in fields if len(short) == 1 and of == form.format(short[0])] for form in forms]
         row = [row for row in rows if row[0] == path]
         if tells is False:

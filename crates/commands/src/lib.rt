@@ -133,10 +133,6 @@ fn spoil(store: &mut [u8], a: usize, v: u8, t: u16) -> u8
     if a >= State::ADDRESSES {
         return 2;
     }
-    let from = State::CELL * a;
-    lent::copy(
-        &mut store[from..from + State::CELL],
-        &entries::cell([v; State::VALUE], t),
-    );
+    entries::write(store, a, [v; State::VALUE], t);
     0
 }

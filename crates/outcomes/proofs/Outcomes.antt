@@ -69,7 +69,11 @@ outcomes = record {
   number-of-remove = record { any = λ κs a. tt; one = λ κs a r r′ l l′. plain };
   number-of-check = record { any = λ κs a. tt; one = λ κs a r r′ l l′. plain };
   number-of-look = record { any = λ κs a. tt; one = λ κs a r r′ l l′. plain };
+  bytes-2 = record { any = λ κs a. tt; one = λ κs a r r′ l l′. plain };
+  number-2 = record { any = λ κs a. tt; one = λ κs a r r′ l l′. plain };
   cell = record { any = λ κs a. tt; one = λ κs a r r′ l l′. plain };
+  stamp-at = record { any = λ κs a. tt; one = λ κs a r r′ l l′. plain };
+  write = record { any = λ κs a. tt; one = λ κs a r r′ l l′. again (λ y. tt) (λ y. (y, (tt, (tt, (tt, tt))))) };
   message = record { any = λ κs a. tt; one = λ κs a r r′ l l′. plain };
   tag = record { any = λ κs a. tt; one = λ κs a r r′ l l′. plain };
   with-tag = record { any = λ κs a. tt; one = λ κs a r r′ l l′. plain };
@@ -89,4 +93,6 @@ outcomes = record {
   run = record { any = λ κs a. tt; one = λ κs a r r′ l l′. again place (λ y. (tt, (y .bytes, tt))) };
   look-any = λ κs a. tt;
   look = λ κs a r r′ e e′ p q. (p .0 ∙ sym (q .0), p .1 ∙ sym (q .1));
+  value-part-any = λ κs a. tt;
+  value-part = λ κs a r r′ e e′ p q. (p .0 ∙ sym (q .0), p .1 ∙ sym (q .1));
 }

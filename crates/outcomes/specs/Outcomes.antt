@@ -40,7 +40,11 @@ use Rattle.numbers.proofs.use_of as NumberOfUse
 use Rattle.numbers.proofs.remove as NumberOfRemove
 use Rattle.numbers.proofs.check as NumberOfCheck
 use Rattle.numbers.proofs.look as NumberOfLook
+use Rattle.octets.proofs.bytes_2 as Bytes2
+use Rattle.octets.proofs.number_2 as Number2
 use Rattle.entries.proofs.cell as Cell
+use Rattle.entries.proofs.stamp_at as StampAt
+use Rattle.entries.proofs.write as Write
 use Rattle.entries.proofs.message as Message
 use Rattle.entries.proofs.tag as Tag
 use Rattle.multiset.proofs.with_tag as WithTag
@@ -59,6 +63,7 @@ use Rattle.answers.proofs.say as Say
 use Rattle.commands.proofs.run as Command
 use Rattle.session.proofs.run as Run
 use Rattle.store.proofs.look as Look
+use Rattle.entries.proofs.value_part as ValuePart
 
 -- an outcome: the result, and for each parameter what the function leaves where it can write; κs are the lifetimes of what is lent
 module _ (T : Ended) where
@@ -107,7 +112,11 @@ pub record Outcomes : Type 1 where
   pub number-of-remove : Tight NumberOfRemove.ended NumberOfRemove.Reads.Asked NumberOfRemove.Reads.Learnt
   pub number-of-check : Tight NumberOfCheck.ended NumberOfCheck.Reads.Asked NumberOfCheck.Reads.Learnt
   pub number-of-look : Tight NumberOfLook.ended NumberOfLook.Reads.Asked NumberOfLook.Reads.Learnt
+  pub bytes-2 : Tight Bytes2.ended Bytes2.Reads.Asked Bytes2.Reads.Learnt
+  pub number-2 : Tight Number2.ended Number2.Reads.Asked Number2.Reads.Learnt
   pub cell : Tight Cell.ended Cell.Reads.Asked Cell.Reads.Learnt
+  pub stamp-at : Tight StampAt.ended StampAt.Reads.Asked StampAt.Reads.Learnt
+  pub write : Tight Write.ended Write.Reads.Asked Write.Reads.Learnt
   pub message : Tight Message.ended Message.Reads.Asked Message.Reads.Learnt
   pub tag : Tight Tag.ended Tag.Reads.Asked Tag.Reads.Learnt
   pub with-tag : Tight WithTag.ended WithTag.Reads.Asked WithTag.Reads.Learnt
@@ -130,3 +139,7 @@ pub record Outcomes : Type 1 where
   pub look-any : (κs : Lfts 1) (a : Args Look.signature κs) → Look.Reads.Asked κs a
   pub look : (κs : Lfts 1) (a : Args Look.signature κs) (r r′ : Res Look.signature κs) (e e′ : AtExit Look.ended κs)
       → Look.Reads.Learnt κs a r e → Look.Reads.Learnt κs a r′ e′ → (now r ≡ now r′) × (ptr r ≡ ptr r′)
+  -- and so does the part of the store that is a value
+  pub value-part-any : (κs : Lfts 1) (a : Args ValuePart.signature κs) → ValuePart.Reads.Asked κs a
+  pub value-part : (κs : Lfts 1) (a : Args ValuePart.signature κs) (r r′ : Res ValuePart.signature κs) (e e′ : AtExit ValuePart.ended κs)
+      → ValuePart.Reads.Learnt κs a r e → ValuePart.Reads.Learnt κs a r′ e′ → (now r ≡ now r′) × (ptr r ≡ ptr r′)

@@ -2,17 +2,16 @@
 use mathlib.Core.Path.{_≡_, refl, sym, ap, ap₂, _∙_}
 use mathlib.Core.Logic.{_⊎_, inl, inr, ⊎-elim}
 use mathlib.Core.Bool.{Bool, true, false}
-use mathlib.Core.List.{List, [], _∷_, _++_, append-assoc}
-use Prim.Native.Nat.{ℕ, zero, suc, _+_, _-_, _*_, _/_, _%_, _^_, _≤_, _<_}
+use mathlib.Core.List.{List, _++_, append-assoc}
+use Prim.Native.Nat.{ℕ, suc, _+_, _-_, _*_, _^_, _≤_, _<_}
 use native.Mathlib.Nat.{mul-le-mul-left, mul-suc}
-use native.Mathlib.Numerals.{add-one}
 use native.Mathlib.Omega.{arith}
 use borrow.Author.Tests.{ltb-true, ltb-false}
 use lib.Dec.{ltb}
-use lib.ListN.{length, getD, set, take, drop, length-append, length-drop, take-append-drop}
-use lib.Seq.{length-take-le, take-append-le, drop-append-le, take-at, drop-at, drop-drop, drop-cons, set-at, append-snoc}
+use lib.ListN.{length, take, drop, length-append, length-drop, take-append-drop}
+use lib.Seq.{length-take-le, take-append-le, drop-append-le, take-at, drop-at, drop-drop}
 use Rattle.octets.specs.Layout.{number, bytes}
-use Rattle.octets.proofs.Layouts.{bytes-length, number-bytes, pow-bytes, bytes-2, number-2}
+use Rattle.octets.proofs.Layouts.{bytes-length, number-bytes, pow-bytes}
 use Rattle.state.specs.Sizes.{addresses, valueSize, cellSize, storeSize}
 use Rattle.state.specs.Cells.{entry, valueAt, stampAt, entryAt, writeCell}
 
@@ -113,20 +112,3 @@ module _ (w : ℕ) (m : List ℕ) (a : ℕ) (v : List ℕ) (t : ℕ) (h : a < ad
   pub entry-written : t < 256 ^ w → entryAt w (writeCell w m a v t) a ≡ entry a v t
   unfolding entryAt
   entry-written g = ap₂ (entry a) value-written (stamp-written g)
-
--- a stamp of two bytes written after n bytes
-pub stamp-filled : (v r : List ℕ) (n t : ℕ) → length v ≡ n → length r ≡ 2 → t < 65536 → set (set (v ++ r) n (t / 256)) (n + 1) (t % 256) ≡ v ++ bytes 2 t
-stamp-filled v [] n t l k h = absurd (omega arith)
-stamp-filled v (x ∷ []) n t l k h = absurd (omega arith)
-stamp-filled v (x ∷ y ∷ z ∷ r) n t l k h = absurd (omega arith)
-stamp-filled v (x ∷ y ∷ []) n t l k h =
-    let u : List ℕ = v ++ (t / 256 ∷ []) in
-    let e : t / 256 % 256 ≡ t / 256 = omega arith in
-    ap (λ (s : List ℕ). set s (n + 1) (t % 256)) (set-at v x (y ∷ []) (t / 256) n l ∙ sym (append-snoc v (t / 256) (y ∷ [])))
-    ∙ set-at u y [] (t % 256) (n + 1) (length-append v (t / 256 ∷ []) ∙ omega arith) ∙ append-snoc v (t / 256) (t % 256 ∷ []) ∙ sym (rw (bytes-2 t, e))
-
--- a stamp of two bytes read from n on
-pub stamp-read : (m : List ℕ) (n : ℕ) → n + 1 < length m → number (take 2 (drop n m)) ≡ getD m n 0 * 256 + getD m (n + 1) 0
-stamp-read m n h =
-    ap (λ (l : List ℕ). number (take 2 l)) (drop-cons m n 0 (omega arith) ∙ ap (λ (l : List ℕ). getD m n 0 ∷ l) (drop-cons m (suc n) 0 (omega arith)))
-    ∙ number-2 (getD m n 0) (getD m (suc n) 0) ∙ rw add-one

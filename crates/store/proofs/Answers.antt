@@ -1,18 +1,18 @@
 -- What is seen of a call that is done, and of one that is refused. Assumes nothing.
 use mathlib.Core.Path.{_≡_, sym, ap, _∙_}
 use mathlib.Core.List.{List}
-use Prim.Native.Nat.{ℕ, _<_}
+use Prim.Native.Nat.{ℕ, _^_, _<_}
 use native.Mathlib.Omega.{arith}
 use Rattle.refusal.specs.Refusal.{Row, first}
-use Rattle.state.specs.Sizes.{ceiling}
+use Rattle.state.specs.Sizes.{width, ceiling}
 use Rattle.state.specs.Step.{seen, Step}
 use Rattle.state.specs.Moves.{call}
 use Rattle.state.specs.declared.State.{State}
 use Rattle.state.specs.declared.Verdict.the-variants.{Nothing}
 use Rattle.state.proofs.Ready.{call-done, call-refused}
 
--- a clock of 16 bits that is not the last is below it
-pub clock-below : (t : ℕ) → t < 65536 → (t ≡ ceiling 2 → ⊥) → t < ceiling 2
+-- a clock of the stamp's width that is not the last is below it
+pub clock-below : (t : ℕ) → t < 256 ^ width → (t ≡ ceiling width → ⊥) → t < ceiling width
 unfolding ceiling
 clock-below t h n = omega arith
 

@@ -1,4 +1,4 @@
-// The cells of a lent store: the value, then the stamp, most significant byte first.
+// The cells of a lent store that has its size: what `entries` reads and writes there.
 use state::State;
 ghost use mathlib.Core.Path.{_≡_};
 ghost use Prim.Native.Nat.{_*_, _<_};
@@ -13,9 +13,7 @@ pub fn value_part(store: &[u8], a: usize) -> &[u8]
     requires { ⌜ (length (now store) ≡ storeSize width) × (a < addresses) ⌝ }
     ensures { λ r. ⌜ (now r ≡ valueAt width (now (store .entry)) a) × (ptr r ≡ place (store .entry) (cellSize width * a)) ⌝ }
 {
-    let at = State::CELL * a;
-    let end = at + State::VALUE;
-    &store[at..end]
+    entries::value_part(store, a)
 }
 
 // The value that a store holds at an address.
@@ -33,8 +31,7 @@ pub fn stamp_at(store: &[u8], a: usize) -> u16
     requires { ⌜ (length (now store) ≡ storeSize width) × (a < addresses) ⌝ }
     ensures { λ r. ⌜ r ≡ stampAt width (now (store .entry)) a ⌝ }
 {
-    let at = State::CELL * a + State::VALUE;
-    store[at] as u16 * 256 + store[at + 1] as u16
+    entries::stamp_at(store, a)
 }
 
 // Writes a value and a stamp to the cell of an address.
@@ -42,7 +39,5 @@ pub fn write(store: &mut [u8], a: usize, value: [u8; State::VALUE], stamp: u16)
     requires { ⌜ (length (now store) ≡ storeSize width) × (a < addresses) ⌝ }
     ensures { λ _. ⌜ now (store .exit) ≡ writeCell width (now (store .entry)) a value stamp ⌝ }
 {
-    let at = State::CELL * a;
-    let end = at + State::CELL;
-    lent::copy(&mut store[at..end], &entries::cell(value, stamp));
+    entries::write(store, a, value, stamp);
 }

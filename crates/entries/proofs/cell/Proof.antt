@@ -1,25 +1,34 @@
--- `entries::cell` meets its contract: the value is copied over the first bytes, and the stamp follows. Assumes nothing.
+-- `entries::cell` meets its contract: the stamp is copied over the last bytes, and the value over the first. Assumes nothing.
 use borrow.Author.Needs.{needs}
-use mathlib.Core.Path.{_≡_, refl, _∙_}
-use mathlib.Core.List.{[], _∷_, _++_}
+use mathlib.Core.Path.{_≡_, sym, ap, _∙_}
+use mathlib.Core.List.{List, _++_, append-nil}
+use Prim.Native.Nat.{ℕ}
 use native.Mathlib.Omega.{arith}
-use lib.ListN.{length}
-use lib.Seq.{take-all}
-use mir.Syntax.{w16}
-use mir.Val.{Fits}
-use Rattle.lent.specs.Lent.{copied}
-use Rattle.state.proofs.Cells.{stamp-filled}
+use lib.ListN.{length, replicate}
+use Rattle.lent.proofs.Copied.{copied-all}
+use Rattle.state.specs.Sizes.{width, valueSize}
+use Rattle.entries.proofs.Cells.{value-copied}
 use Rattle.entries.proofs.cell.Statement.{statement}
 use Rattle.entries.proofs.cell.Tie as tie
 
+filled : tie.Need-slice-aggregate-copy-2
+filled c =
+    let d = c .before .before in
+    let b = d .before .before in
+    let l : length (b .bytes-2 .result) ≡ width = search needs in
+    let e = ap length (append-nil (d .copy .last .0) ∙ d .copy .ensures ∙ copied-all (replicate width 0) (b .bytes-2 .result) (sym l)) in
+    omega arith
+
 returns : tie.Need-returns
-unfolding copied
+unfolding valueSize
 returns c =
-    let s = c .before .before .before .before .args in
-    let l : length (s .t1) ≡ 28 = search needs in
-    let f : Fits w16 (s .stamp) = search needs in
-    let e : c .before .copy .last .0 ≡ s .t1 ++ (0 ∷ 0 ∷ []) = c .before .copy .ensures ∙ rw (l, take-all 30 (s .t1) (omega arith)) in
-    rw e (stamp-filled (s .t1) (0 ∷ 0 ∷ []) 28 (s .stamp) l refl (f .fits))
+    let d = c .before .before .before .before .before in
+    let b = d .before .before in
+    let a = b .before .before .args in
+    let l : length (b .bytes-2 .result) ≡ width = search needs in
+    let n : length (a .t1) ≡ valueSize = search needs in
+    c .before .copy2 .ensures ∙ value-copied (replicate valueSize 0) (a .t1) _ n
+    ∙ ap (λ (k : List ℕ). a .t1 ++ k) (append-nil (d .copy .last .0) ∙ d .copy .ensures ∙ copied-all (replicate width 0) (b .bytes-2 .result) (sym l) ∙ b .bytes-2 .ensures)
 
 pub cell-spec : {M : Type 1} → statement M
 cell-spec =
@@ -27,10 +36,11 @@ cell-spec =
     (tie.spec
     (λ c. search needs)
     (λ c. search needs)
+    (λ c. search needs)
     (λ c κs. search needs)
     (λ c. search needs)
+    (λ c κs. search needs)
+    filled
     (λ c. search needs)
-    (λ c. search needs)
-    (λ c. search needs)
-    (λ c. search needs)
+    (λ c κs. search needs)
     returns)

@@ -1,6 +1,7 @@
 -- `store::remove` meets its contract: by its number. Assumes nothing.
 use borrow.Author.Needs.{needs}
 use mathlib.Core.Path.{sym, _∙_}
+use Rattle.state.specs.Sizes.{width}
 use Rattle.state.specs.Moves.{removeOf}
 use Rattle.state.proofs.Ready.{remove-ready}
 use Rattle.store.proofs.Answers.{done-seen, refused-seen}
@@ -11,7 +12,7 @@ removed-requires : tie.Need-removed-requires
 removed-requires c κs =
     let b = c .before .before in
     let x = b .before .before .before .args in
-    let r = remove-ready 2 (x .s) (x .store .now) (x .a) (sym (b .remove .ensures) ∙ c .before .if1 .taken) in
+    let r = remove-ready width (x .s) (x .store .now) (x .a) (sym (b .remove .ensures) ∙ c .before .if1 .taken) in
     (r .size, r .below)
 
 returns : tie.Need-returns

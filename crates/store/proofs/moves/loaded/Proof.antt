@@ -28,7 +28,7 @@ returns c =
     let m = x .args .store .now in
     let a = x .args .a in
     let v = b .value-at .ensures in
-    let l : length (b .value-at .result) ≡ 28 = search needs in
+    let l : length (b .value-at .result) ≡ valueSize = search needs in
     let e : o .copy .last .0 ≡ b .value-at .result = o .copy .ensures ∙ copied-all (x .args .out .now) (b .value-at .result) (x .pre .2 ∙ sym l) in
     same-seen (p .put .ensures .0 ∙ ap₂ (λ s u. putEntry tag s (next s a u)) (t .take .ensures) v)
     (p .put .ensures .1 ∙ ap₂ (λ s u. writeEntry width m (next s a u)) (t .take .ensures) v)
