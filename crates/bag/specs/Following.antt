@@ -13,21 +13,22 @@ use Rattle.state.specs.Cells.{Entry, entryAt}
 use Rattle.state.specs.Multiset.{hash, Fits}
 use Rattle.state.specs.Step.{Event, took, put, accepted}
 use Rattle.state.specs.Check.{agrees}
+use Rattle.state.specs.declared.Seal.{Seal}
 use Rattle.state.specs.declared.State.{State}
 use Rattle.bag.specs.Bag.{Bag}
 
 -- ---- the trusted state
 
--- a state has the key, the bag's clock and fault mark, and the hashes of what the bag has put and taken; its marks are no part of this
-pub record Follows (tag : List ℕ → Entry → List ℕ) (k : List ℕ) (s : State) (b : Bag) : Type 0 where
-  pub key : s .key ≡ k
+-- a state has the seal, the bag's clock and fault mark, and the hashes of what the bag has put and taken; its marks are no part of this
+pub record Follows (tag : Seal → Entry → List ℕ) (k : Seal) (s : State) (b : Bag) : Type 0 where
+  pub seal : s .seal ≡ k
   pub put : s .put ≡ hash (tag k) (b .puts)
   pub take : s .take ≡ hash (tag k) (b .takes)
   pub clock : s .clock ≡ b .clock
   pub fault : s .fault ≡ b .fault
 
 -- so a check that looks at such a state after its takes tells of the bag exactly
-abbrev pub Verdict : (List ℕ → Entry → List ℕ) → List ℕ → Type 0
+abbrev pub Verdict : (Seal → Entry → List ℕ) → Seal → Type 0
 Verdict tag k = (s : State) (b : Bag) → Follows tag k s b → (agrees s ≡ true) ↔ ((hash (tag k) (b .puts) ≡ hash (tag k) (b .takes)) × (b .fault ≡ false))
 
 -- ---- the store

@@ -1,4 +1,5 @@
 // An element of the multisets as bytes: its cell, written and read in a store, its message, and its tag.
+use state::Seal;
 use state::State;
 ghost use mathlib.Core.Path.{_≡_};
 ghost use mathlib.Core.Bool.{cond};
@@ -87,9 +88,10 @@ pub fn message(a: u16, value: [u8; State::VALUE], stamp: u16) -> [u8; MESSAGE]
     m
 }
 
-// An entry's tag: the HMAC of its message under the key.
-pub fn tag(key: [u8; State::KEY], a: u16, value: [u8; State::VALUE], stamp: u16) -> [u8; State::TAG]
-    ensures { λ r. ⌜ r ≡ tagOf width key (entry a value stamp) ⌝ }
+// An entry's tag: the HMAC of its message under the seal's key.
+pub fn tag(seal: Seal, a: u16, value: [u8; State::VALUE], stamp: u16) -> [u8; State::TAG]
+    ensures { λ r. ⌜ r ≡ tagOf width seal (entry a value stamp) ⌝ }
 {
+    let key = seal.key;
     hmac::tag(key, &message(a, value, stamp))
 }

@@ -16,7 +16,7 @@ byteOf b = cond b 1 0
 -- the state that is held
 unfoldable pub stateOf : Held → State
 stateOf h = record {
-  key = h .key;
+  seal = record { key = h .key };
   put = record { tag = h .put .tag; number = h .put .number };
   take = record { tag = h .take .tag; number = h .take .number };
   clock = h .clock;
@@ -28,7 +28,7 @@ stateOf h = record {
 -- how a state is written
 unfoldable pub heldOf : State → Held
 heldOf s = record {
-  key = s .key;
+  key = s .seal .key;
   marks = s .marks;
   put = record { tag = s .put .tag; number = s .put .number };
   take = record { tag = s .take .tag; number = s .take .number };

@@ -175,7 +175,7 @@ fn state_of(h: Held) -> State
     let take = h.take;
     let take_tag = take.tag;
     State {
-        key,
+        seal: state::Seal { key },
         put: state::Hash {
             tag: put_tag,
             number: put.number,
@@ -194,7 +194,8 @@ fn state_of(h: Held) -> State
 fn held_of(s: State) -> Held
     ensures { λ r. ⌜ r ≡ heldOf s ⌝ }
 {
-    let key = s.key;
+    let seal = s.seal;
+    let key = seal.key;
     let marks = s.marks;
     let put = s.put;
     let put_tag = put.tag;

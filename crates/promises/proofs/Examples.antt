@@ -15,6 +15,7 @@ use Rattle.state.specs.Sizes.{width, addresses, valueSize, cellSize, storeSize,
 use Rattle.state.specs.Marks.{used, countBelow, countOf, firstFrom, lowestFree}
 use Rattle.state.specs.Cells.{writeCell, writeEntry}
 use Rattle.state.specs.Multiset.{message}
+use Rattle.state.specs.Start.{sealed}
 use Rattle.state.specs.Step.{Step, next, withMarks, putEntry}
 use Rattle.state.specs.Moves.{addRows, useRows, removeRows, lookRows, call, added, addOf, loadOf, storeOf, removeOf, lookOf, lowestOf, freeNumber}
 use Rattle.state.specs.Table.{Marked}
@@ -29,7 +30,7 @@ use Rattle.promises.specs.Examples.{Sized, Example1, Example2, Example3,
 use Rattle.promises.proofs.Filters.{example-6, example-7, example-8, example-9, example-10, example-11, example-unequal, example-host}
 
 example-3 : Example3 tag
-unfolding message bytes split total tagOf
+unfolding message bytes split total sealed tagOf
 example-3 key = refl
 
 example-12 : Example12 library
@@ -42,7 +43,7 @@ example-13 = (refl, refl, refl)
 
 example-14 : Example14 tag
 unfolding tagOf
-example-14 key x y = pairs (tag key) (λ e. hmac-length key (message width e)) x y
+example-14 seal x y = pairs (tag seal) (λ e. hmac-length (seal .key) (message width e)) x y
 
 -- what an add that is done writes
 add-stores : (s : State) (m : List ℕ) (a : ℕ) (v : List ℕ) → addOf width tag s m a v .seen .number ≡ 0

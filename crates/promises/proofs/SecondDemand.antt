@@ -10,6 +10,7 @@ use Rattle.sha256.specs.Sha256.{sha256, digestOf}
 use Rattle.hmac.specs.Hmac.{hmac, macOf}
 use Rattle.state.specs.Sizes.{valueSize}
 use Rattle.state.specs.Multiset.{message}
+use Rattle.state.specs.Start.{sealed}
 use Rattle.state.proofs.Multiset.{same-counts}
 use Rattle.state.proofs.Messages.{message-injective}
 use Rattle.state.proofs.Effects.{effects, hash-joined}
@@ -30,7 +31,7 @@ unfolding macOf
 macs k m out g h e = simp (le-ltb 1024 (length k) g, le-ltb 4096 (length m) h, eq-eqb (length out) 32 e)
 
 pub second-demand : SecondDemand tag library
-unfolding message tagOf valueSize
+unfolding message sealed tagOf valueSize
 second-demand = record {
   digest = digests;
   round-constants = K-rule;
@@ -38,8 +39,8 @@ second-demand = record {
   mac = macs;
   tags = λ key e. refl;
   one-entry = λ d e f g. message-injective 2 d e f g;
-  hashes = λ key es. hash-joined (tag key) es;
-  same-hash = λ key. same-counts (tag key);
+  hashes = λ seal es. hash-joined (tag seal) es;
+  same-hash = λ seal. same-counts (tag seal);
   effects = effects 2 tag;
   check-exactly = check-exact 2 tag;
   state-exactly = state-exact 2 tag;

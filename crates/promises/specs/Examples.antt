@@ -8,8 +8,10 @@ use lib.ListN.{length, take, drop, replicate}
 use Rattle.octets.specs.Layout.{bytes}
 use Rattle.state.specs.Cells.{Entry, entry}
 use Rattle.state.specs.Multiset.{hash}
+use Rattle.state.specs.Start.{sealed}
 use Rattle.state.specs.Moves.{freeNumber}
 use Rattle.state.specs.Table.{Marked, zeroHash}
+use Rattle.state.specs.declared.Seal.{Seal}
 use Rattle.state.specs.declared.State.{State}
 use Rattle.state.specs.declared.Free.the-variants.{At, Full}
 use Rattle.hmac.specs.Hmac.{hmac}
@@ -22,7 +24,7 @@ full = 2 ^ 64 - 1
 
 -- a state of zeros with these marks
 abbrev pub marking : List ℕ → State
-marking ws = record { key = replicate 32 0; put = zeroHash; take = zeroHash; clock = 0; fault = false; closed = false; marks = ws }
+marking ws = record { seal = record { key = replicate 32 0 }; put = zeroHash; take = zeroHash; clock = 0; fault = false; closed = false; marks = ws }
 
 -- the state is open, the store and the value have their sizes
 pub record Sized (s : State) (m v : List ℕ) : Type 0 where
@@ -61,17 +63,17 @@ module _ (l : Library) where
   abbrev pub Example13 : Type 0
   Example13 = (l .store .count (marking (replicate 16 full)) ≡ 1024) × (l .store .lowest-free (marking (replicate 16 full)) ≡ Full) × (freeNumber Full ≡ 9)
 
-module _ (tag : List ℕ → Entry → List ℕ) where
+module _ (tag : Seal → Entry → List ℕ) where
   -- 3. address 5, stamp 3, a zero value: message 01 00 05, 28 zeros, 00 03
   abbrev pub Example3 : Type 0
-  Example3 = (key : List ℕ) → tag key (entry 5 (replicate 28 0) 3) ≡ hmac key (0x01 ∷ 0x00 ∷ 0x05 ∷ (replicate 28 0 ++ (0x00 ∷ 0x03 ∷ [])))
+  Example3 = (key : List ℕ) → tag (sealed key) (entry 5 (replicate 28 0) 3) ≡ hmac key (0x01 ∷ 0x00 ∷ 0x05 ∷ (replicate 28 0 ++ (0x00 ∷ 0x03 ∷ [])))
 
-  -- 14. {x, x} and {y, y} have equal hashes, whatever x and y are, under every key
+  -- 14. {x, x} and {y, y} have equal hashes, whatever x and y are, under every seal
   abbrev pub Example14 : Type 0
-  Example14 = (key : List ℕ) (x y : Entry) → hash (tag key) (x ∷ x ∷ []) ≡ hash (tag key) (y ∷ y ∷ [])
+  Example14 = (seal : Seal) (x y : Entry) → hash (tag seal) (x ∷ x ∷ []) ≡ hash (tag seal) (y ∷ y ∷ [])
 
 -- all fourteen, and two more of filter records
-pub record Examples (tag : List ℕ → Entry → List ℕ) (l : Library) : Type 0 where
+pub record Examples (tag : Seal → Entry → List ℕ) (l : Library) : Type 0 where
   -- 1. cell 0
   pub cell-0 : Example1 l
   -- 2. cell 1,023

@@ -3,6 +3,7 @@
 use mathlib.Core.List.{List}
 use Prim.Native.Nat.{ℕ}
 use Rattle.state.specs.Cells.{Entry}
+use Rattle.state.specs.declared.Seal.{Seal}
 use Rattle.outcomes.specs.Outcomes.{Outcomes}
 use Rattle.outcomes.specs.Exports.{Exported}
 use Rattle.promises.specs.Library.{Library}
@@ -13,7 +14,7 @@ use Rattle.promises.specs.SecondDemand.{SecondDemand}
 use Rattle.promises.specs.ThirdDemand.{ThirdDemand}
 use Rattle.promises.specs.Examples.{Examples}
 
-pub record Pintlecup (tag : List ℕ → Entry → List ℕ) (l : Library) : Type 2 where
+pub record Pintlecup (tag : Seal → Entry → List ℕ) (l : Library) : Type 2 where
   pub tied : Tied l
   pub in-c : InC l
   pub first-demand : FirstDemand l

@@ -17,7 +17,9 @@ use Rattle.hmac.specs.Hmac.{hmac}
 use Rattle.state.specs.Cells.{Entry}
 use Rattle.state.specs.Multiset.{Fits, hash}
 use Rattle.state.specs.Counts.{times}
+use Rattle.state.specs.Start.{sealed}
 use Rattle.state.specs.Effects.{Effects}
+use Rattle.state.specs.declared.Seal.{Seal}
 use Rattle.filter.specs.Promises.{OneToOne}
 use Rattle.going.specs.Going.{Compared}
 use Rattle.run.specs.Exact.{OnePeriod, StateExact, CheckExact}
@@ -28,18 +30,18 @@ use Rattle.promises.specs.Filters.{ZerosLawful}
 abbrev pub message33 : Entry → List ℕ
 message33 e = 0x01 ∷ (bytes 2 (e .address) ++ (e .value ++ bytes 2 (e .stamp)))
 
-pub record SecondDemand (tag : List ℕ → Entry → List ℕ) (l : Library) : Type 0 where
+pub record SecondDemand (tag : Seal → Entry → List ℕ) (l : Library) : Type 0 where
   -- the digest; its constants follow the rule of roots
   pub digest : (m out : List ℕ) → length m ≤ 8192 → length out ≡ 32 → l .digest m out ≡ filled 0 (sha256 m)
   pub round-constants : KRule
   pub starting-words : H0Rule
   -- the keyed tag, and that of an entry, whose message no other entry has
   pub mac : (k m out : List ℕ) → length k ≤ 1024 → length m ≤ 4096 → length out ≡ 32 → l .mac k m out ≡ filled 0 (hmac k m)
-  pub tags : (key : List ℕ) (e : Entry) → tag key e ≡ hmac key (message33 e)
+  pub tags : (key : List ℕ) (e : Entry) → tag (sealed key) e ≡ hmac key (message33 e)
   pub one-entry : (d e : Entry) → Fits 2 d → Fits 2 e → message33 d ≡ message33 e → d ≡ e
   -- the hash of a multiset, listed in any order: the exclusive-or of all its tags, and how many elements there are
-  pub hashes : (key : List ℕ) (es : List Entry) → hash (tag key) es ≡ record { tag = foldl xor (replicate 32 0) (map (tag key) es); number = length es % 4294967296 }
-  pub same-hash : (key : List ℕ) (p t : List Entry) → ((e : Entry) → times e p ≡ times e t) → hash (tag key) p ≡ hash (tag key) t
+  pub hashes : (seal : Seal) (es : List Entry) → hash (tag seal) es ≡ record { tag = foldl xor (replicate 32 0) (map (tag seal) es); number = length es % 4294967296 }
+  pub same-hash : (seal : Seal) (p t : List Entry) → ((e : Entry) → times e p ≡ times e t) → hash (tag seal) p ≡ hash (tag seal) t
   -- from any state: what each call that is done does with the hashes and all else, and which verdict a check gives
   pub effects : Effects 2 tag (l .store)
   -- of whole runs: a check that is done accepts exactly when the hashes of its period agree and no stamp in it was ahead of the clock of its time; at any time

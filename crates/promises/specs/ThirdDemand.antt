@@ -9,13 +9,14 @@ use mathlib.Core.Path.{_≡_}
 use mathlib.Core.List.{List, []}
 use Prim.Native.Nat.{ℕ}
 use Rattle.state.specs.Cells.{Entry}
+use Rattle.state.specs.declared.Seal.{Seal}
 use Rattle.state.specs.declared.State.{State}
 use Rattle.run.specs.Calls.{add, load, store, remove, check, step}
 use Rattle.run.specs.Demand3.{stateAfter, Demand3}
 use Rattle.run.specs.Sense.{HonestNoCollision, UnusedMayChange}
 use Rattle.promises.specs.Library.{Library}
 
-pub record ThirdDemand (tag : List ℕ → Entry → List ℕ) (l : Library) : Type 0 where
+pub record ThirdDemand (tag : Seal → Entry → List ℕ) (l : Library) : Type 0 where
   -- the runs spoken of are runs of these calls
   pub start : (key : List ℕ) → l .store .start key .state ≡ stateAfter 2 tag key []
   pub add : (s : State) (m : List ℕ) (a : ℕ) (v : List ℕ) → l .store .add s m a v ≡ step 2 tag s m (add a v) .seen

@@ -7,6 +7,7 @@ use Rattle.state.specs.Cells.{Entry}
 use Rattle.state.specs.Start.{startOf}
 use Rattle.state.specs.Step.{Event, accepted, Step}
 use Rattle.state.specs.Check.{checkRows, agrees, takes, puts, takeAll, acceptance, rejection, checkOf}
+use Rattle.state.specs.declared.Seal.{Seal}
 use Rattle.state.specs.declared.State.{State}
 use Rattle.state.specs.declared.Verdict.the-variants.{Accept}
 use Rattle.bag.proofs.Lists.{no-place}
@@ -19,14 +20,14 @@ use Rattle.run.proofs.Runs.{CallOf, call-of}
 use Rattle.run.proofs.FromStart.{events-append, doneBy, events-none, events-last, run-did}
 
 -- what a check that accepts gives
-pub accepts-gives : (w : ℕ) (tag : List ℕ → Entry → List ℕ) (s : State) (m : List ℕ) → step w tag s m check .seen .verdict ≡ Accept → step w tag s m check ≡ acceptance w tag s m
+pub accepts-gives : (w : ℕ) (tag : Seal → Entry → List ℕ) (s : State) (m : List ℕ) → step w tag s m check .seen .verdict ≡ Accept → step w tag s m check ≡ acceptance w tag s m
 unfolding step checkOf acceptance rejection
 accepts-gives w tag s m =
     by-rows s m (λ (r : Step). r .seen .verdict ≡ Accept → r ≡ acceptance w tag s m) (checkRows w s m) [] _
     (λ e. by-cond (λ (r : Step). r .seen .verdict ≡ Accept → r ≡ acceptance w tag s m) (agrees (takeAll w tag s m)) (λ k v. refl) (λ k v. let z : _≡_ {A = ℕ} 0 1 = cc in absurd (omega arith)))
     (λ n v. let z : _≡_ {A = ℕ} 0 1 = cc in absurd (omega arith))
 
-module _ (w : ℕ) (tag : List ℕ → Entry → List ℕ) (key : List ℕ) where
+module _ (w : ℕ) (tag : Seal → Entry → List ℕ) (key : List ℕ) where
   -- a check of the run that accepts, what was done up to its verdict being `past`
   pub record AcceptedCheck (run : List Lent) (past : List Event) : Type 0 where
     pub before : List Lent

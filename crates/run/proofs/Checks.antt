@@ -15,6 +15,7 @@ use Rattle.state.specs.Cells.{Entry, entryAt}
 use Rattle.state.specs.Multiset.{hash}
 use Rattle.state.specs.Step.{Event, took, put, accepted, shut}
 use Rattle.state.specs.Check.{checkRows, taken, opening, reput, opened, agrees, takes, puts, writeAll, takeAll, putAll, acceptance, rejection}
+use Rattle.state.specs.declared.Seal.{Seal}
 use Rattle.state.specs.declared.State.{State}
 use Rattle.state.proofs.Ready.{check-ready}
 use Rattle.state.proofs.Marks.{used-below}
@@ -40,7 +41,7 @@ check-sets : (n : ℕ) (u : List ℕ) {A : Type 0} → Sets check n u → A
 check-sets n u (inl e) = let z : _≡_ {A = ℕ} 0 1 = cc in absurd (omega arith)
 check-sets n u (inr e) = let z : _≡_ {A = ℕ} 0 1 = cc in absurd (omega arith)
 
-module _ (w : ℕ) (tag : List ℕ → Entry → List ℕ) (key : List ℕ) (s : State) (m : List ℕ) (b : Bag) (f : Follows tag key s b) (t : Fit s b) where
+module _ (w : ℕ) (tag : Seal → Entry → List ℕ) (seal : Seal) (s : State) (m : List ℕ) (b : Bag) (f : Follows tag seal s b) (t : Fit s b) where
   -- the addresses in use are those where an entry is held
   abbrev cs : List ℕ
   cs = inUse (s .marks)
@@ -56,9 +57,9 @@ module _ (w : ℕ) (tag : List ℕ → Entry → List ℕ) (key : List ℕ) (s :
 
   -- ---- the takes, which every check makes
 
-  pub taken-lawful : Lawful (tag key) b (takes w s m)
+  pub taken-lawful : Lawful (tag seal) b (takes w s m)
   unfolding takes taken
-  taken-lawful = takes-lawful w m b cs once exact (tag key)
+  taken-lawful = takes-lawful w m b cs once exact (tag seal)
 
   pub taken-right : Holds w b m → Right b (takes w s m)
   unfolding takes taken
@@ -72,9 +73,9 @@ module _ (w : ℕ) (tag : List ℕ → Entry → List ℕ) (key : List ℕ) (s :
   unfolding takes taken
   taken-bare = takes-bare w m b cs once exact
 
-  pub taken-follows : Follows tag key (takeAll w tag s m) (follow b (takes w s m))
+  pub taken-follows : Follows tag seal (takeAll w tag s m) (follow b (takes w s m))
   unfolding takes takeAll
-  taken-follows = takes-follow tag key s b (taken w (s .marks) m) f
+  taken-follows = takes-follow tag seal s b (taken w (s .marks) m) f
 
   taken-holds : Holds w b m → Holds w (follow b (takes w s m)) m
   unfolding takes
@@ -84,7 +85,7 @@ module _ (w : ℕ) (tag : List ℕ → Entry → List ℕ) (key : List ℕ) (s :
   unfolding takes
   taken-unbroken = unbroken (takes w s m) (takes-plain (taken w (s .marks) m))
 
-  rejection-does : length m ≡ storeSize w → Does w tag key s m b check (rejection w tag s m)
+  rejection-does : length m ≡ storeSize w → Does w tag seal s m b check (rejection w tag s m)
   unfolding rejection shut takes
   rejection-does size =
       record {
@@ -111,20 +112,20 @@ module _ (w : ℕ) (tag : List ℕ → Entry → List ℕ) (key : List ℕ) (s :
     unfolding noted
     opens-empty = foldl-append noted b (takes w s m) (accepted ∷ puts w s m)
 
-    accepts-exactly : (hash (tag key) (follow b (takes w s m) .puts) ≡ hash (tag key) (follow b (takes w s m) .takes)) × (follow b (takes w s m) .fault ≡ false)
-    accepts-exactly = verdict tag key (takeAll w tag s m) (follow b (takes w s m)) taken-follows .0 agreed
+    accepts-exactly : (hash (tag seal) (follow b (takes w s m) .puts) ≡ hash (tag seal) (follow b (takes w s m) .takes)) × (follow b (takes w s m) .fault ≡ false)
+    accepts-exactly = verdict tag seal (takeAll w tag s m) (follow b (takes w s m)) taken-follows .0 agreed
 
-    accepted-lawful : Lawful (tag key) b all
+    accepted-lawful : Lawful (tag seal) b all
     unfolding noted puts reput
     accepted-lawful =
-        along-append (May (tag key)) b (takes w s m) (accepted ∷ puts w s m) taken-lawful
-        ((taken-bare, accepts-exactly .0, accepts-exactly .1), puts-lawful w m b cs once exact (tag key))
+        along-append (May (tag seal)) b (takes w s m) (accepted ∷ puts w s m) taken-lawful
+        ((taken-bare, accepts-exactly .0, accepts-exactly .1), puts-lawful w m b cs once exact (tag seal))
 
-    accepted-follows : Follows tag key (putAll w tag s m) (follow b all)
+    accepted-follows : Follows tag seal (putAll w tag s m) (follow b all)
     unfolding takes puts putAll
     accepted-follows =
-        subst (Follows tag key (putAll w tag s m)) (sym opens-empty)
-        (puts-follow tag key (opened s) (empty 1) (reput w (s .marks) m) (opened-follows tag key s (f .key) (f .fault ∙ calm-before b (takes w s m) taken-unbroken (accepts-exactly .1))))
+        subst (Follows tag seal (putAll w tag s m)) (sym opens-empty)
+        (puts-follow tag seal (opened s) (empty 1) (reput w (s .marks) m) (opened-follows tag seal s (f .seal) (f .fault ∙ calm-before b (takes w s m) taken-unbroken (accepts-exactly .1))))
 
     accepted-held : (a : ℕ) → follow b all .held a ≡ cond (used (s .marks) a) (some (opening w m a)) none
     unfolding puts reput
@@ -171,7 +172,7 @@ module _ (w : ℕ) (tag : List ℕ → Entry → List ℕ) (key : List ℕ) (s :
         here [] g h = g ∙ append-nil (takes w s m)
         here (x ∷ d) g h = absurd (unbroken (puts w s m) (puts-plain (reput w (s .marks) m)) d q (tail-eq-of-cons-eq h))
 
-    acceptance-does : Does w tag key s m b check (acceptance w tag s m)
+    acceptance-does : Does w tag seal s m b check (acceptance w tag s m)
     unfolding acceptance takes puts noted
     acceptance-does =
         record {
@@ -187,7 +188,7 @@ module _ (w : ℕ) (tag : List ℕ → Entry → List ℕ) (key : List ℕ) (s :
           accepts = λ p q e. (refl, refl, accepted-place p q e);
         }
 
-  pub check-does : first (checkRows w s m) ≡ 0 → Does w tag key s m b check (cond (agrees (takeAll w tag s m)) (acceptance w tag s m) (rejection w tag s m))
+  pub check-does : first (checkRows w s m) ≡ 0 → Does w tag seal s m b check (cond (agrees (takeAll w tag s m)) (acceptance w tag s m) (rejection w tag s m))
   check-does e =
       let size = check-ready w s m e .1 in
-      by-cond (Does w tag key s m b check) (agrees (takeAll w tag s m)) (acceptance-does size) (λ k. rejection-does size)
+      by-cond (Does w tag seal s m b check) (agrees (takeAll w tag s m)) (acceptance-does size) (λ k. rejection-does size)

@@ -7,8 +7,10 @@ use mathlib.Core.Logic.{_⊎_, inl, inr}
 use Prim.Native.Nat.{ℕ, _≤_}
 use Rattle.state.specs.Cells.{Entry}
 use Rattle.state.specs.Counts.{times}
+use Rattle.state.specs.Start.{sealed}
 use Rattle.state.specs.Step.{Event}
 use Rattle.state.specs.Check.{takes}
+use Rattle.state.specs.declared.Seal.{Seal}
 use Rattle.state.specs.declared.State.{State}
 use Rattle.state.proofs.Ready.{check-ready}
 use Rattle.state.proofs.Guards.{equal-accepts}
@@ -29,7 +31,7 @@ use Rattle.run.proofs.FromStart.{doneBy, bagOf, events-none, events-las
 use Rattle.run.proofs.Exact.{check-done, check-follows}
 use Rattle.run.proofs.Sized.{run-room}
 
-module _ (w : ℕ) (one : 1 ≤ w) (tag : List ℕ → Entry → List ℕ) (key : List ℕ) where
+module _ (w : ℕ) (one : 1 ≤ w) (tag : Seal → Entry → List ℕ) (key : List ℕ) where
   abbrev leaves : List Lent → Lent → List ℕ
   leaves run x = result w tag key run x .seen .store
 
@@ -74,22 +76,22 @@ module _ (w : ℕ) (one : 1 ≤ w) (tag : List ℕ → Entry → List ℕ) (key 
         let h = honest run (unaltered-part run (lent check m ∷ []) u) in
         let k = invariant w tag key run .follows unclosed in
         let b = bagOf w tag key run in
-        complete (tag key) (empty 0) all (empty-orderly 0) refl refl
-        (along-append (May (tag key)) (empty 0) (eventsOf w tag key run) (takes w s m) (invariant w tag key run .lawful) (taken-lawful w tag key s m b (k .0) (k .1)))
-        (along-append TakesHeld (empty 0) (eventsOf w tag key run) (takes w s m) (h .0) (taken-right w tag key s m b (k .0) (k .1) (lent-holds (run ++ (lent check m ∷ [])) u run [] (lent check m) refl (d, refl) (h .1))))
+        complete (tag (sealed key)) (empty 0) all (empty-orderly 0) refl refl
+        (along-append (May (tag (sealed key))) (empty 0) (eventsOf w tag key run) (takes w s m) (invariant w tag key run .lawful) (taken-lawful w tag (sealed key) s m b (k .0) (k .1)))
+        (along-append TakesHeld (empty 0) (eventsOf w tag key run) (takes w s m) (h .0) (taken-right w tag (sealed key) s m b (k .0) (k .1) (lent-holds (run ++ (lent check m ∷ [])) u run [] (lent check m) refl (d, refl) (h .1))))
 
     -- what was put is what was taken
     pub check-even : (c : Entry) → times c (follow (empty 0) all .puts) ≡ times c (follow (empty 0) all .takes)
     check-even =
         let k = invariant w tag key run .follows unclosed in
-        all-complete .1 (subst Bare (sym (foldl-append noted (empty 0) (eventsOf w tag key run) (takes w s m))) (taken-bare w tag key s m (bagOf w tag key run) (k .0) (k .1)))
+        all-complete .1 (subst Bare (sym (foldl-append noted (empty 0) (eventsOf w tag key run) (takes w s m))) (taken-bare w tag (sealed key) s m (bagOf w tag key run) (k .0) (k .1)))
 
     -- the second half
     pub complete-at : Accepts w tag key run m
     unfolding step
     complete-at =
         let f = check-follows w tag key run m unclosed in
-        equal-accepts w tag s m (check-done w tag s m d) (f .put ∙ same-counts (tag key) _ _ check-even ∙ sym (f .take)) (f .fault ∙ all-complete .0)
+        equal-accepts w tag s m (check-done w tag s m d) (f .put ∙ same-counts (tag (sealed key)) _ _ check-even ∙ sym (f .take)) (f .fault ∙ all-complete .0)
 
   pub complete-each : (run : List Lent) → Unaltered w tag key run → EachCheck w tag key run
   complete-each run u before later m e d =

@@ -12,6 +12,7 @@ use Rattle.state.specs.Marks.{used}
 use Rattle.state.specs.Cells.{Entry}
 use Rattle.state.specs.Step.{Event, accepted, Step}
 use Rattle.state.specs.Check.{takes}
+use Rattle.state.specs.declared.Seal.{Seal}
 use Rattle.state.specs.declared.State.{State}
 use Rattle.state.specs.declared.Verdict.the-variants.{Accept, Nothing}
 use Rattle.bag.specs.Bag.{Bag, follow}
@@ -34,12 +35,12 @@ Room w b = (1 ≤ ceiling w) × (b .clock ≤ ceiling w)
 abbrev pub Kept : Bag → Call → ℕ → Entry → Type 0
 Kept b c a e = Sets c a (e .value) ⊎ (((v : List ℕ) → Sets c a v → ⊥) × ((d : Entry) × (b .held a ≡ some d) × (d .value ≡ e .value)))
 
-module _ (w : ℕ) (tag : List ℕ → Entry → List ℕ) (key : List ℕ) (s : State) (m : List ℕ) (b : Bag) (c : Call) where
+module _ (w : ℕ) (tag : Seal → Entry → List ℕ) (seal : Seal) (s : State) (m : List ℕ) (b : Bag) (c : Call) where
   -- a call that is done, and takes or puts
   pub record Does (r : Step) : Type 0 where
     pub number : r .seen .number ≡ 0
-    pub lawful : Lawful (tag key) b (r .events)
-    pub follows : r .seen .state .closed ≡ false → Follows tag key (r .seen .state) (follow b (r .events))
+    pub lawful : Lawful (tag seal) b (r .events)
+    pub follows : r .seen .state .closed ≡ false → Follows tag seal (r .seen .state) (follow b (r .events))
     pub fit : r .seen .state .closed ≡ false → Fit (r .seen .state) (follow b (r .events))
     pub putFits : Room w b → Along (PutFits w) b (r .events)
     pub takeFits : Bytes m → Along (TakeFits w) b (r .events)

@@ -9,8 +9,9 @@ use lib.ListN.{length}
 use borrow.Author.Tests.{eq-eqb}
 use Rattle.state.specs.Sizes.{storeSize}
 use Rattle.state.specs.Cells.{Entry, entryAt}
-use Rattle.state.specs.Start.{fresh, none, startOf}
+use Rattle.state.specs.Start.{sealed, fresh, none, startOf}
 use Rattle.state.specs.Check.{checkRows}
+use Rattle.state.specs.declared.Seal.{Seal}
 use Rattle.state.specs.declared.State.{State}
 use Rattle.state.specs.declared.Started.{Started}
 use Rattle.state.specs.declared.Verdict.the-variants.{Nothing}
@@ -31,7 +32,7 @@ sets-one c d a v u e (inl h) (inr k) = cc
 sets-one c d a v u e (inr h) (inl k) = cc
 sets-one c d a v u e (inr h) (inr k) = cc
 
-module _ (w : ℕ) (tag : List ℕ → Entry → List ℕ) (key : List ℕ) where
+module _ (w : ℕ) (tag : Seal → Entry → List ℕ) (key : List ℕ) where
   -- the value last added or stored is one
   pub last-one : (run : List Lent) (a : ℕ) (v u : List ℕ) → LastSet w tag key run a v → LastSet w tag key run a u → v ≡ u
   last-one run a v u (l, h) (k, g) = sets-one (l .call .call) (k .call .call) a v u (ap (λ (x : Lent). x .call) (latest-one _ run l k .1)) h g
@@ -42,7 +43,7 @@ module _ (w : ℕ) (tag : List ℕ → Entry → List ℕ) (key : List ℕ) wher
   empty-run (before, m, place, a) = no-place before (lent check m) [] place
 
   abbrev StaysStill : List Lent → Lent → Type 0
-  StaysStill run x = Still w tag key (stateAfter w tag key run) (x .bytes) (bagOf w tag key run) (x .call) (result w tag key run x)
+  StaysStill run x = Still w tag (sealed key) (stateAfter w tag key run) (x .bytes) (bagOf w tag key run) (x .call) (result w tag key run x)
 
   -- a call that is refused, or gets a closed state, or is idle, changes nothing
   nothing-done : (run : List Lent) (x : Lent) → (stateAfter w tag key run .closed ≡ false → Moves w tag key run x → ⊥) → StaysStill run x

@@ -8,8 +8,10 @@ use native.Mathlib.Omega.{arith}
 use Rattle.refusal.specs.Refusal.{first}
 use Rattle.state.specs.Cells.{Entry}
 use Rattle.state.specs.Multiset.{hash}
+use Rattle.state.specs.Start.{sealed}
 use Rattle.state.specs.Step.{Event, took, put, accepted, Step}
 use Rattle.state.specs.Check.{checkRows, agrees, takes, takeAll, acceptance, rejection, checkOf}
+use Rattle.state.specs.declared.Seal.{Seal}
 use Rattle.state.specs.declared.State.{State}
 use Rattle.state.proofs.Ready.{call-done, check-ready}
 use Rattle.state.proofs.Guards.{accepts-tells, equal-accepts}
@@ -56,13 +58,13 @@ module _ (all period : List Event) (since : Since all period) where
       (λ p q e k. let h : Ahead (clockAfter (since .past ++ p)) e → ⊥ = n p q e k in omega (arith, clock-then p))
 
   -- what a state tells
-  pub follows-tells : (tag : List ℕ → Entry → List ℕ) (key : List ℕ) (s : State) → Follows tag key s (follow (empty 0) all) → Tells tag key s all period since
+  pub follows-tells : (tag : Seal → Entry → List ℕ) (seal : Seal) (s : State) → Follows tag seal s (follow (empty 0) all) → Tells tag seal s all period since
   unfolding empty
-  follows-tells tag key s f =
+  follows-tells tag seal s f =
       record {
-        key = f .key;
-        put = f .put ∙ ap (hash (tag key)) (since-puts all period since);
-        take = f .take ∙ ap (hash (tag key)) (since-takes all period since);
+        seal = f .seal;
+        put = f .put ∙ ap (hash (tag seal)) (since-puts all period since);
+        take = f .take ∙ ap (hash (tag seal)) (since-takes all period since);
         clock = f .clock ∙ sym (clock-told (empty 0) all);
         fault = ((λ h. calm-none (sym (f .fault) ∙ h)), λ n. f .fault ∙ none-calm n);
       }
@@ -72,27 +74,27 @@ module _ (all period : List Event) (since : Since all period) where
 pub one-period : OnePeriod
 one-period all = let now = since-now all in (now .0, now .1, λ other t. since-one all (now .0) other (now .1) t)
 
-pub check-done : (w : ℕ) (tag : List ℕ → Entry → List ℕ) (s : State) (m : List ℕ) → step w tag s m check .seen .number ≡ 0 → first (checkRows w s m) ≡ 0
+pub check-done : (w : ℕ) (tag : Seal → Entry → List ℕ) (s : State) (m : List ℕ) → step w tag s m check .seen .number ≡ 0 → first (checkRows w s m) ≡ 0
 unfolding step checkOf
 check-done w tag s m = done-rows s m (checkRows w s m) [] _
 
-pub check-number : (w : ℕ) (tag : List ℕ → Entry → List ℕ) (s : State) (m : List ℕ) → first (checkRows w s m) ≡ 0 → step w tag s m check .seen .number ≡ 0
+pub check-number : (w : ℕ) (tag : Seal → Entry → List ℕ) (s : State) (m : List ℕ) → first (checkRows w s m) ≡ 0 → step w tag s m check .seen .number ≡ 0
 unfolding step checkOf acceptance rejection
 check-number w tag s m e =
     ap (λ (r : Step). r .seen .number) (call-done (checkRows w s m) s m [] _ e) ∙ by-cond (λ (r : Step). r .seen .number ≡ 0) (agrees (takeAll w tag s m)) (λ k. refl) (λ k. refl)
 
-pub state-exact : (w : ℕ) (tag : List ℕ → Entry → List ℕ) → StateExact w tag
-state-exact w tag key run o period since = follows-tells (eventsOf w tag key run) period since tag key (stateAfter w tag key run) (invariant w tag key run .follows o .0)
+pub state-exact : (w : ℕ) (tag : Seal → Entry → List ℕ) → StateExact w tag
+state-exact w tag key run o period since = follows-tells (eventsOf w tag key run) period since tag (sealed key) (stateAfter w tag key run) (invariant w tag key run .follows o .0)
 
 -- the state after the takes of a check follows them
-pub check-follows : (w : ℕ) (tag : List ℕ → Entry → List ℕ) (key : List ℕ) (run : List Lent) (m : List ℕ) → let s = stateAfter w tag key run in s .closed ≡ false
-    → Follows tag key (takeAll w tag s m) (follow (empty 0) (eventsOf w tag key run ++ takes w s m))
+pub check-follows : (w : ℕ) (tag : Seal → Entry → List ℕ) (key : List ℕ) (run : List Lent) (m : List ℕ) → let s = stateAfter w tag key run in s .closed ≡ false
+    → Follows tag (sealed key) (takeAll w tag s m) (follow (empty 0) (eventsOf w tag key run ++ takes w s m))
 check-follows w tag key run m o =
     let s = stateAfter w tag key run in
     let k = invariant w tag key run .follows o in
-    subst (Follows tag key (takeAll w tag s m)) (sym (foldl-append noted (empty 0) (eventsOf w tag key run) (takes w s m))) (taken-follows w tag key s m (bagOf w tag key run) (k .0) (k .1))
+    subst (Follows tag (sealed key) (takeAll w tag s m)) (sym (foldl-append noted (empty 0) (eventsOf w tag key run) (takes w s m))) (taken-follows w tag (sealed key) s m (bagOf w tag key run) (k .0) (k .1))
 
-pub check-exact : (w : ℕ) (tag : List ℕ → Entry → List ℕ) → CheckExact w tag
+pub check-exact : (w : ℕ) (tag : Seal → Entry → List ℕ) → CheckExact w tag
 unfolding step
 check-exact w tag key run m d period since = (
   (λ a. let k = accepts-tells w tag s m e a in (sym (h .put) ∙ k .0 ∙ h .take, h .fault .0 (k .1))),
@@ -105,11 +107,11 @@ check-exact w tag key run m d period since = (
     e : first (checkRows w s m) ≡ 0
     e = check-done w tag s m d
 
-    h : Tells tag key (takeAll w tag s m) (eventsOf w tag key run ++ takes w s m) period since
-    h = follows-tells (eventsOf w tag key run ++ takes w s m) period since tag key (takeAll w tag s m) (check-follows w tag key run m (check-ready w s m e .0))
+    h : Tells tag (sealed key) (takeAll w tag s m) (eventsOf w tag key run ++ takes w s m) period since
+    h = follows-tells (eventsOf w tag key run ++ takes w s m) period since tag (sealed key) (takeAll w tag s m) (check-follows w tag key run m (check-ready w s m e .0))
 
 -- of the entries put in a period no two are alike
-pub alike-now : (w : ℕ) (tag : List ℕ → Entry → List ℕ) (key : List ℕ) (run : List Lent) (period : List Event) → Since (eventsOf w tag key run) period → NoTwoAlike (putIn period)
+pub alike-now : (w : ℕ) (tag : Seal → Entry → List ℕ) (key : List ℕ) (run : List Lent) (period : List Event) → Since (eventsOf w tag key run) period → NoTwoAlike (putIn period)
 alike-now w tag key run period p =
     let all = eventsOf w tag key run in
-    subst NoTwoAlike (since-puts all period p) (stays-orderly (tag key) (empty 0) all (empty-orderly 0) (invariant w tag key run .lawful) .alike)
+    subst NoTwoAlike (since-puts all period p) (stays-orderly (tag (sealed key)) (empty 0) all (empty-orderly 0) (invariant w tag key run .lawful) .alike)

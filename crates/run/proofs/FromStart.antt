@@ -8,8 +8,9 @@ use lib.Dec.{eqb}
 use lib.ListN.{length}
 use borrow.Author.Tests.{eqb-true, eqb-false}
 use Rattle.state.specs.Cells.{Entry}
-use Rattle.state.specs.Start.{fresh, none, startOf}
+use Rattle.state.specs.Start.{sealed, fresh, none, startOf}
 use Rattle.state.specs.Step.{Event, Step}
+use Rattle.state.specs.declared.Seal.{Seal}
 use Rattle.state.specs.declared.State.{State}
 use Rattle.state.specs.declared.Started.{Started}
 use Rattle.state.proofs.Starts.{start-done, start-refused}
@@ -26,14 +27,14 @@ use Rattle.run.proofs.Steps.{step-did}
 use Rattle.run.proofs.Runs.{by-calls}
 
 -- a start by its one row
-pub by-start : (key : List ℕ) (P : State → Type 0) → (length key ≡ 32 → P (fresh key false)) → ((length key ≡ 32 → ⊥) → P none) → P (startOf key .state)
+pub by-start : (key : List ℕ) (P : State → Type 0) → (length key ≡ 32 → P (fresh (sealed key) false)) → ((length key ≡ 32 → ⊥) → P none) → P (startOf key .state)
 by-start key P f g = go (eqb (length key) 32) refl
   where
     go : (b : Bool) → eqb (length key) 32 ≡ b → P (startOf key .state)
     go true e = let h = eqb-true (length key) 32 e in subst (λ (r : Started). P (r .state)) (sym (start-done key h)) (f h)
     go false e = let h = eqb-false (length key) 32 e in subst (λ (r : Started). P (r .state)) (sym (start-refused key h)) (g h)
 
-module _ (w : ℕ) (tag : List ℕ → Entry → List ℕ) where
+module _ (w : ℕ) (tag : Seal → Entry → List ℕ) where
   after-append : (s : State) (p q : List Lent) → after w tag s (p ++ q) ≡ after w tag (after w tag s p) q
   unfolding after
   after-append s [] q = refl
@@ -75,8 +76,8 @@ module _ (w : ℕ) (tag : List ℕ → Entry → List ℕ) where
     -- ---- what is known of a run's state s and of all that was done
 
     pub record Invariant (s : State) (all : List Event) : Type 0 where
-      pub lawful : Lawful (tag key) (empty 0) all
-      pub follows : s .closed ≡ false → Follows tag key s (follow (empty 0) all) × Fit s (follow (empty 0) all)
+      pub lawful : Lawful (tag (sealed key)) (empty 0) all
+      pub follows : s .closed ≡ false → Follows tag (sealed key) s (follow (empty 0) all) × Fit s (follow (empty 0) all)
 
     begins : Invariant (startOf key .state) []
     unfolding none fresh empty
@@ -85,18 +86,18 @@ module _ (w : ℕ) (tag : List ℕ → Entry → List ℕ) where
         (λ e.
         record {
           lawful = tt;
-          follows = λ o. (record { key = refl; put = sym (hash-none (tag key)); take = sym (hash-none (tag key)); clock = refl; fault = refl }, record { marked = fresh-unused; sixteen = refl });
+          follows = λ o. (record { seal = refl; put = sym (hash-none (tag (sealed key))); take = sym (hash-none (tag (sealed key))); clock = refl; fault = refl }, record { marked = fresh-unused; sixteen = refl });
         })
         (λ e. record { lawful = tt; follows = λ o. absurd (true≢false o) })
 
-    goes-on : (s : State) (m : List ℕ) (all : List Event) (c : Call) (r : Step) → Invariant s all → Did w tag key s m (follow (empty 0) all) c r → Invariant (r .seen .state) (all ++ r .events)
+    goes-on : (s : State) (m : List ℕ) (all : List Event) (c : Call) (r : Step) → Invariant s all → Did w tag (sealed key) s m (follow (empty 0) all) c r → Invariant (r .seen .state) (all ++ r .events)
     goes-on s m all c r i (still n) =
         subst (λ (x : State). Invariant x (all ++ r .events)) (sym (n .state)) (subst (Invariant s) (sym (ap (λ (es : List Event). all ++ es) (n .events) ∙ append-nil all)) i)
     goes-on s m all c r i (does o y d) =
         let same = sym (foldl-append noted (empty 0) all (r .events)) in
         record {
-          lawful = along-append (May (tag key)) (empty 0) all (r .events) (i .lawful) (d .lawful);
-          follows = λ k. (subst (Follows tag key (r .seen .state)) same (d .follows k), subst (Fit (r .seen .state)) same (d .fit k));
+          lawful = along-append (May (tag (sealed key))) (empty 0) all (r .events) (i .lawful) (d .lawful);
+          follows = λ k. (subst (Follows tag (sealed key) (r .seen .state)) same (d .follows k), subst (Fit (r .seen .state)) same (d .fit k));
         }
 
     pub invariant : (run : List Lent) → Invariant (stateAfter w tag key run) (eventsOf w tag key run)
@@ -106,13 +107,13 @@ module _ (w : ℕ) (tag : List ℕ → Entry → List ℕ) where
         (λ run x i.
         let s = stateAfter w tag key run in
         subst (λ (t : State). Invariant t (eventsOf w tag key run ++ doneBy run x)) (sym (state-last run x))
-        (goes-on s (x .bytes) (eventsOf w tag key run) (x .call) (result w tag key run x) i (step-did w tag key s (x .bytes) (bagOf run) (i .follows) (x .call))))
+        (goes-on s (x .bytes) (eventsOf w tag key run) (x .call) (result w tag key run x) i (step-did w tag (sealed key) s (x .bytes) (bagOf run) (i .follows) (x .call))))
 
     -- each call of a run shows what a call has to
-    pub run-did : (run : List Lent) (x : Lent) → Did w tag key (stateAfter w tag key run) (x .bytes) (bagOf run) (x .call) (result w tag key run x)
-    run-did run x = step-did w tag key (stateAfter w tag key run) (x .bytes) (bagOf run) (invariant run .follows) (x .call)
+    pub run-did : (run : List Lent) (x : Lent) → Did w tag (sealed key) (stateAfter w tag key run) (x .bytes) (bagOf run) (x .call) (result w tag key run x)
+    run-did run x = step-did w tag (sealed key) (stateAfter w tag key run) (x .bytes) (bagOf run) (invariant run .follows) (x .call)
 
     -- one that is not refused, and no look, count or lowest free, gets a state that is not closed
     pub moves-does : (run : List Lent) (x : Lent) → Moves w tag key run x
-        → (stateAfter w tag key run .closed ≡ false) × Does w tag key (stateAfter w tag key run) (x .bytes) (bagOf run) (x .call) (result w tag key run x)
+        → (stateAfter w tag key run .closed ≡ false) × Does w tag (sealed key) (stateAfter w tag key run) (x .bytes) (bagOf run) (x .call) (result w tag key run x)
     moves-does run x m = elim (run-did run x) [ still n ↦ absurd (n .idle (m .0) (m .1)) | does o y d ↦ (o, d) ]

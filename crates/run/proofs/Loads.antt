@@ -8,6 +8,7 @@ use Prim.Native.Nat.{ℕ}
 use Rattle.state.specs.Cells.{Entry}
 use Rattle.state.specs.Start.{startOf}
 use Rattle.state.specs.Step.{Event}
+use Rattle.state.specs.declared.Seal.{Seal}
 use Rattle.bag.specs.Bag.{Bag, empty, noted, follow}
 use Rattle.bag.specs.Law.{TakesHeld, Right}
 use Rattle.bag.proofs.Along.{along-split}
@@ -23,7 +24,7 @@ sets-moves : (c : Call) (a : ℕ) (v : List ℕ) → Sets c a v → moves c ≡ 
 sets-moves c a v (inl e) = ap moves e
 sets-moves c a v (inr e) = ap moves e
 
-module _ (w : ℕ) (tag : List ℕ → Entry → List ℕ) (key : List ℕ) where
+module _ (w : ℕ) (tag : Seal → Entry → List ℕ) (key : List ℕ) where
   -- the value that is held at an address after all that was done
   abbrev Keeps : List Lent → List Event → ℕ → List ℕ → Type 0
   Keeps run all a v = (e : Entry) × (follow (empty 0) all .held a ≡ some e) × (e .value ≡ v)

@@ -15,6 +15,7 @@ use Rattle.state.specs.Marks.{used, marked, unmarked}
 use Rattle.state.specs.Cells.{Entry, valueAt, entryAt, writeEntry}
 use Rattle.state.specs.Step.{took, put, seen, step, withMarks, next, takeEntry, putEntry}
 use Rattle.state.specs.Moves.{addRows, useRows, removeRows, added, loaded, stored, removed}
+use Rattle.state.specs.declared.Seal.{Seal}
 use Rattle.state.specs.declared.State.{State}
 use Rattle.state.specs.declared.Verdict.the-variants.{Nothing}
 use Rattle.state.proofs.Cells.{value-length}
@@ -34,9 +35,9 @@ use Rattle.run.proofs.Does.{Fit, Room, Kept, Does}
 
 -- ---- marks and what is held
 
-marks-follow : (tag : List ℕ → Entry → List ℕ) (key : List ℕ) (s : State) (b : Bag) (ws : List ℕ) → Follows tag key s b → Follows tag key (withMarks s ws) b
+marks-follow : (tag : Seal → Entry → List ℕ) (seal : Seal) (s : State) (b : Bag) (ws : List ℕ) → Follows tag seal s b → Follows tag seal (withMarks s ws) b
 unfolding withMarks
-marks-follow tag key s b ws f = record { key = f .key; put = f .put; take = f .take; clock = f .clock; fault = f .fault }
+marks-follow tag seal s b ws f = record { seal = f .seal; put = f .put; take = f .take; clock = f .clock; fault = f .fault }
 
 -- an address that is not in use holds nothing, and one in use something
 free : (s : State) (b : Bag) → Fit s b → (a : ℕ) → used (s .marks) a ≡ false → b .held a ≡ none
@@ -85,14 +86,14 @@ remove-sets : (a n : ℕ) (u : List ℕ) {A : Type 0} → Sets (remove a) n u �
 remove-sets a n u (inl e) = let z : _≡_ {A = ℕ} 0 1 = cc in absurd (omega arith)
 remove-sets a n u (inr e) = let z : _≡_ {A = ℕ} 0 1 = cc in absurd (omega arith)
 
-module _ (w : ℕ) (tag : List ℕ → Entry → List ℕ) (key : List ℕ) (s : State) (m : List ℕ) (b : Bag) (f : Follows tag key s b) (t : Fit s b) where
+module _ (w : ℕ) (tag : Seal → Entry → List ℕ) (seal : Seal) (s : State) (m : List ℕ) (b : Bag) (f : Follows tag seal s b) (t : Fit s b) where
   next-fits : (u : Bool) (a : ℕ) (v : List ℕ) → Ready w s m a u → length v ≡ valueSize → s .clock ≢ ceiling w → Room w b → InCell w (next s a v)
   unfolding next
   next-fits u a v p l time g = record { address = p .below; value = l; stamp = omega (arith, f .clock) }
 
   -- ---- add
 
-  pub add-does : (a : ℕ) (v : List ℕ) → first (addRows w s m a v) ≡ 0 → Does w tag key s m b (add a v) (added w tag s m a v)
+  pub add-does : (a : ℕ) (v : List ℕ) → first (addRows w s m a v) ≡ 0 → Does w tag seal s m b (add a v) (added w tag s m a v)
   unfolding added noted next putEntry withMarks
   add-does a v e =
       let p = add-ready w s m a v e in
@@ -102,7 +103,7 @@ module _ (w : ℕ) (tag : List ℕ → Entry → List ℕ) (key : List ℕ) (s :
       record {
         number = refl;
         lawful = ((free s b t a (p .0 .mark), inl (ap (λ (c : ℕ). c + 1) (f .clock))), tt);
-        follows = λ o. marks-follow tag key (putEntry tag s d) (noted b (put d)) (marked (s .marks) a) (put-follows tag key s b d f);
+        follows = λ o. marks-follow tag seal (putEntry tag s d) (noted b (put d)) (marked (s .marks) a) (put-follows tag seal s b d f);
         fit = λ o. fit-at s b t a (noted b (put d)) elsewhere _ (length-marked (s .marks) a) (λ n q. used-marked (s .marks) a (t .sixteen) (p .0 .below) n ∙ rw q) (used-marked (s .marks) a (t .sixteen) (p .0 .below) a ∙ rw (eq-eqb a a refl, upd-here (b .held) a (some d)));
         putFits = λ g. (fits g, tt);
         takeFits = λ h. (tt, tt);
@@ -124,7 +125,7 @@ module _ (w : ℕ) (tag : List ℕ → Entry → List ℕ) (key : List ℕ) (s :
     exchange-does : (c : Call) (out : List ℕ) → Ready w s m a true → length v ≡ valueSize → s .clock ≢ ceiling w
         → ((n : ℕ) (u : List ℕ) → Sets c n u → n ≡ a) → (b .held a ≡ some old → Kept b c a new)
         → ((n : ℕ) (o : List ℕ) → c ≡ load n o → b .held a ≡ some old → (d : Entry) × (b .held n ≡ some d) × (d .value ≡ out))
-        → Does w tag key s m b c (step (seen 0 Nothing (putEntry tag (takeEntry tag s old) new) (writeEntry w m new) out) (took old ∷ put new ∷ []))
+        → Does w tag seal s m b c (step (seen 0 Nothing (putEntry tag (takeEntry tag s old) new) (writeEntry w m new) out) (took old ∷ put new ∷ []))
     unfolding noted next takeEntry putEntry entryAt
     exchange-does c out p l time only here answer =
         let taken : Bag = noted b (took old) in
@@ -134,7 +135,7 @@ module _ (w : ℕ) (tag : List ℕ → Entry → List ℕ) (key : List ℕ) (s :
         record {
           number = refl;
           lawful = (held s b t a (p .mark), ((upd-here (b .held) a none, inl (ap (λ (c : ℕ). c + 1) (f .clock))), tt));
-          follows = λ o. put-follows tag key (takeEntry tag s old) taken new (take-follows tag key s b old f);
+          follows = λ o. put-follows tag seal (takeEntry tag s old) taken new (take-follows tag seal s b old f);
           fit = λ o. fit-at s b t a (noted taken (put new)) elsewhere _ refl (λ n q. refl) (p .mark ∙ ap there (sym (upd-here (upd (b .held) a none) a (some new))));
           putFits = λ g. (tt, (fits g, tt));
           takeFits = λ h. (taken-fits w m h a (p .below) (p .size), (tt, tt));
@@ -146,14 +147,14 @@ module _ (w : ℕ) (tag : List ℕ → Entry → List ℕ) (key : List ℕ) (s :
           accepts = λ x y q. absurd (unbroken (took old ∷ put new ∷ []) refl x y q);
         }
 
-  pub load-does : (a : ℕ) (o : List ℕ) → first (useRows w s m a o) ≡ 0 → Does w tag key s m b (load a o) (loaded w tag s m a)
+  pub load-does : (a : ℕ) (o : List ℕ) → first (useRows w s m a o) ≡ 0 → Does w tag seal s m b (load a o) (loaded w tag s m a)
   unfolding loaded entryAt next
   load-does a o e =
       let p = use-ready w s m a o e in
       exchange-does a (valueAt w m a) (load a o) (valueAt w m a) (p .0) (value-length w m a (p .0 .below) (p .0 .size)) (p .1 .time) (λ n u h. load-sets a o n u h)
       (λ k. inr ((λ u h. load-sets a o a u h), (entryAt w m a, k, refl))) (λ n u q k. let z : n ≡ a = cc in (entryAt w m a, ap (b .held) z ∙ k, refl))
 
-  pub store-does : (a : ℕ) (v : List ℕ) → first (useRows w s m a v) ≡ 0 → Does w tag key s m b (store a v) (stored w tag s m a v)
+  pub store-does : (a : ℕ) (v : List ℕ) → first (useRows w s m a v) ≡ 0 → Does w tag seal s m b (store a v) (stored w tag s m a v)
   unfolding stored next
   store-does a v e =
       let p = use-ready w s m a v e in
@@ -161,7 +162,7 @@ module _ (w : ℕ) (tag : List ℕ → Entry → List ℕ) (key : List ℕ) (s :
 
   -- ---- remove
 
-  pub remove-does : (a : ℕ) → first (removeRows w s m a) ≡ 0 → Does w tag key s m b (remove a) (removed w tag s m a)
+  pub remove-does : (a : ℕ) → first (removeRows w s m a) ≡ 0 → Does w tag seal s m b (remove a) (removed w tag s m a)
   unfolding removed noted takeEntry withMarks entryAt
   remove-does a e =
       let p = remove-ready w s m a e in
@@ -170,7 +171,7 @@ module _ (w : ℕ) (tag : List ℕ → Entry → List ℕ) (key : List ℕ) (s :
       record {
         number = refl;
         lawful = (held s b t a (p .mark), tt);
-        follows = λ o. marks-follow tag key (takeEntry tag s old) (noted b (took old)) (unmarked (s .marks) a) (take-follows tag key s b old f);
+        follows = λ o. marks-follow tag seal (takeEntry tag s old) (noted b (took old)) (unmarked (s .marks) a) (take-follows tag seal s b old f);
         fit = λ o. fit-at s b t a (noted b (took old)) elsewhere _ (length-unmarked (s .marks) a) (λ n q. used-unmarked (s .marks) a (t .sixteen) (p .below) n ∙ rw q) (used-unmarked (s .marks) a (t .sixteen) (p .below) a ∙ rw (eq-eqb a a refl, upd-here (b .held) a none));
         putFits = λ g. (tt, tt);
         takeFits = λ h. (taken-fits w m h a (p .below) (p .size), tt);

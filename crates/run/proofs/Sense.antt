@@ -11,6 +11,7 @@ use Rattle.state.specs.Counts.{times}
 use Rattle.state.specs.Step.{Event, Step}
 use Rattle.state.specs.Moves.{call}
 use Rattle.state.specs.Check.{takes, acceptance}
+use Rattle.state.specs.declared.Seal.{Seal}
 use Rattle.bag.proofs.Lists.{last-place, place-stays}
 use Rattle.run.specs.Calls.{store, check, Lent, lent}
 use Rattle.run.specs.Demand3.{Latest, stateAfter, result, eventsOf, Done, Moves, Unaltered}
@@ -21,7 +22,7 @@ use Rattle.run.proofs.Complete.{check-even, unaltered-part}
 
 -- ---- an honest run has no collision
 
-pub honest-no-collision : (w : ℕ) → 1 ≤ w → (tag : List ℕ → Entry → List ℕ) → HonestNoCollision w tag
+pub honest-no-collision : (w : ℕ) → 1 ≤ w → (tag : Seal → Entry → List ℕ) → HonestNoCollision w tag
 unfolding acceptance
 honest-no-collision w one tag key run u c =
     c .differ .1
@@ -41,7 +42,7 @@ honest-no-collision w one tag key run u c =
 
 -- ---- what is not in use may change
 
-pub unused-may-change : (w : ℕ) → 1 ≤ w → (tag : List ℕ → Entry → List ℕ) → UnusedMayChange w tag
+pub unused-may-change : (w : ℕ) → 1 ≤ w → (tag : Seal → Entry → List ℕ) → UnusedMayChange w tag
 unused-may-change w one tag key run c m n done same u before later x place d l a i =
     elim (last-place run (lent c n) before x later place) [
       | inl (r, f, g) ↦ u before (r ++ (lent c m ∷ [])) x (place-stays run before x r (lent c m ∷ []) f) d l a i

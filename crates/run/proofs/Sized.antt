@@ -10,6 +10,7 @@ use Rattle.state.specs.Sizes.{addresses, ceiling}
 use Rattle.state.specs.Cells.{Entry}
 use Rattle.state.specs.Multiset.{message, Fits}
 use Rattle.state.specs.Step.{Event, took, put, accepted}
+use Rattle.state.specs.declared.Seal.{Seal}
 use Rattle.state.proofs.Messages.{message-injective}
 use Rattle.bag.specs.Bag.{Bag, empty, noted, follow}
 use Rattle.bag.specs.Law.{Along}
@@ -39,7 +40,7 @@ clock-fits w one b (accepted ∷ es) h f = clock-fits w one (empty 1) es one (f 
 abbrev pub AllBytes : List Lent → Type 0
 AllBytes run = (before later : List Lent) (x : Lent) → run ≡ before ++ (x ∷ later) → Bytes (x .bytes)
 
-module _ (w : ℕ) (tag : List ℕ → Entry → List ℕ) (key : List ℕ) where
+module _ (w : ℕ) (tag : Seal → Entry → List ℕ) (key : List ℕ) where
   -- where each put fits, so does the clock
   module _ (one : 1 ≤ w) where
     room : (all : List Event) → Along (PutFits w) (empty 0) all → Room w (follow (empty 0) all)

@@ -6,8 +6,10 @@ use mathlib.Core.Logic.{_⊎_, inl, inr}
 use Prim.Native.Nat.{ℕ}
 use Rattle.state.specs.Cells.{Entry}
 use Rattle.state.specs.Multiset.{hash}
+use Rattle.state.specs.Start.{sealed}
 use Rattle.state.specs.Step.{Event, put, accepted, Step}
 use Rattle.state.specs.Check.{reput, takes, puts, acceptance}
+use Rattle.state.specs.declared.Seal.{Seal}
 use Rattle.state.specs.declared.State.{State}
 use Rattle.bag.specs.Bag.{empty, noted, follow}
 use Rattle.bag.specs.Law.{Along, May, TakesHeld, Right}
@@ -22,10 +24,10 @@ use Rattle.run.proofs.Loads.{loads-right}
 use Rattle.run.proofs.Periods.{since-puts, since-takes, since-now}
 use Rattle.run.proofs.Accepted.{accepts-gives, AcceptedCheck, accepted-check}
 
-module _ (w : ℕ) (tag : List ℕ → Entry → List ℕ) (key : List ℕ) where
+module _ (w : ℕ) (tag : Seal → Entry → List ℕ) (key : List ℕ) where
   -- ---- collisions
 
-  collision : (run : List Lent) → Collides (tag key) (empty 0) (eventsOf w tag key run) → Collision w tag key run
+  collision : (run : List Lent) → Collides (tag (sealed key)) (empty 0) (eventsOf w tag key run) → Collision w tag key run
   collision run c =
       record {
         before = k .before;
@@ -37,7 +39,7 @@ module _ (w : ℕ) (tag : List ℕ → Entry → List ℕ) (key : List ℕ) wher
         since = subst (λ (es : List Event). Since es (now .0)) (k .upTo) (now .1);
         alike = subst NoTwoAlike same-puts (c .alike);
         differ = subst (λ (ps : List Entry). Differ ps (takenIn (now .0))) same-puts (subst (Differ (follow (empty 0) (c .past) .puts)) same-takes (c .differ));
-        equal = ap (hash (tag key)) (sym same-puts) ∙ c .equal ∙ ap (hash (tag key)) same-takes;
+        equal = ap (hash (tag (sealed key))) (sym same-puts) ∙ c .equal ∙ ap (hash (tag (sealed key))) same-takes;
       }
     where
       k : AcceptedCheck w tag key run (c .past)
@@ -57,8 +59,8 @@ module _ (w : ℕ) (tag : List ℕ → Entry → List ℕ) (key : List ℕ) wher
   pub sound : (run : List Lent) → LastAccepts w tag key run → EachLoad w tag key run ⊎ Collision w tag key run
   unfolding puts empty noted acceptance
   sound run (before, m, place, a) =
-      elim (sound-accepted (tag key) (empty 0) past (puts w s m) (empty-orderly 0) (right refl tt) (subst (Along (May (tag key)) (empty 0)) all (invariant w tag key run .lawful))) [
-        | inl c ↦ inr (collision run (subst (Collides (tag key) (empty 0)) (sym all) c))
+      elim (sound-accepted (tag (sealed key)) (empty 0) past (puts w s m) (empty-orderly 0) (right refl tt) (subst (Along (May (tag (sealed key))) (empty 0)) all (invariant w tag key run .lawful))) [
+        | inl c ↦ inr (collision run (subst (Collides (tag (sealed key)) (empty 0)) (sym all) c))
         | inr r ↦
             inl (loads-right w tag key run (subst (Right (empty 0)) (sym all) (along-append TakesHeld (empty 0) past (accepted ∷ puts w s m) r (tt, along-map TakesHeld put (λ x e. tt) (empty 1) (reput w (s .marks) m)))))
       ]

@@ -13,12 +13,13 @@ use Rattle.state.specs.Start.{fresh, startOf}
 use Rattle.state.specs.Step.{withMarks, shut, next, takeEntry, putEntry}
 use Rattle.state.specs.Moves.{addRows, useRows, call, added, addOf, loaded, loadOf, stored, storeOf}
 use Rattle.state.specs.Check.{checkRows, taken, opening, reput, opened, agrees, takes, puts, writeAll, takeAll, putAll, acceptance, rejection, checkOf}
+use Rattle.state.specs.declared.Seal.{Seal}
 use Rattle.state.specs.declared.State.{State}
 use Rattle.state.specs.declared.Verdict.{Verdict}
 use Rattle.state.specs.declared.Verdict.the-variants.{Accept, Reject, Nothing}
 use Rattle.run.specs.Calls.{Call, add, load, store, check, Lent, lent, step}
 
-toy : List ℕ → Entry → List ℕ
+toy : Seal → Entry → List ℕ
 toy k e = (e .address + e .stamp + getD (e .value) 0 0) ∷ e .stamp ∷ replicate 30 1
 
 -- a value of equal bytes, as the bench has them

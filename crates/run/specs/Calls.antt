@@ -7,6 +7,7 @@ use Rattle.state.specs.Cells.{Entry}
 use Rattle.state.specs.Step.{Event, seen, Step}
 use Rattle.state.specs.Moves.{addOf, loadOf, storeOf, removeOf}
 use Rattle.state.specs.Check.{checkOf}
+use Rattle.state.specs.declared.Seal.{Seal}
 use Rattle.state.specs.declared.State.{State}
 use Rattle.state.specs.declared.Verdict.the-variants.{Nothing}
 
@@ -44,7 +45,7 @@ moves lowest = false
 abbrev pub idle : State → List ℕ → Step
 idle s m = record { seen = seen 0 Nothing s m []; events = [] }
 
-module _ (w : ℕ) (tag : List ℕ → Entry → List ℕ) where
+module _ (w : ℕ) (tag : Seal → Entry → List ℕ) where
   -- what a call does; and what it gives, but for look, count and lowest free
   unfoldable pub step : State → List ℕ → Call → Step
   step s m (add a v) = addOf w tag s m a v

@@ -22,9 +22,10 @@ use Rattle.state.specs.Marks.{used}
 use Rattle.state.specs.Cells.{Entry, entryAt}
 use Rattle.state.specs.Multiset.{hash}
 use Rattle.state.specs.Counts.{times}
-use Rattle.state.specs.Start.{startOf}
+use Rattle.state.specs.Start.{sealed, startOf}
 use Rattle.state.specs.Step.{Event, took, put, accepted, Step}
 use Rattle.state.specs.Check.{takes}
+use Rattle.state.specs.declared.Seal.{Seal}
 use Rattle.state.specs.declared.State.{State}
 use Rattle.state.specs.declared.Verdict.the-variants.{Accept}
 use Rattle.run.specs.Calls.{Call, add, load, store, check, Lent, lent, moves, step, after, events}
@@ -77,7 +78,7 @@ pub record Latest {A : Type 0} (P : List A → A → Type 0) (run : List A) : Ty
 abbrev pub Sets : Call → ℕ → List ℕ → Type 0
 Sets c a v = (c ≡ add a v) ⊎ (c ≡ store a v)
 
-module _ (w : ℕ) (tag : List ℕ → Entry → List ℕ) (key : List ℕ) where
+module _ (w : ℕ) (tag : Seal → Entry → List ℕ) (key : List ℕ) where
   -- the state after a run, what a call that follows it gives, and all that a run did, in order
   abbrev pub stateAfter : List Lent → State
   stateAfter run = after w tag (startOf key .state) run
@@ -123,7 +124,7 @@ module _ (w : ℕ) (tag : List ℕ → Entry → List ℕ) (key : List ℕ) wher
     pub since : Since (eventsOf before ++ takes w (stateAfter before) bytes) period
     pub alike : NoTwoAlike (putIn period)
     pub differ : Differ (putIn period) (takenIn period)
-    pub equal : hash (tag key) (putIn period) ≡ hash (tag key) (takenIn period)
+    pub equal : hash (tag (sealed key)) (putIn period) ≡ hash (tag (sealed key)) (takenIn period)
 
   -- the last call is a check that accepts
   abbrev pub LastAccepts : List Lent → Type 0
@@ -147,7 +148,7 @@ module _ (w : ℕ) (tag : List ℕ → Entry → List ℕ) (key : List ℕ) wher
 
 -- ---- demand 3, for a stamp of w bytes and any tag
 
-abbrev pub Demand3 : ℕ → (List ℕ → Entry → List ℕ) → Type 0
+abbrev pub Demand3 : ℕ → (Seal → Entry → List ℕ) → Type 0
 Demand3 w tag =
     (key : List ℕ) (run : List Lent)
     → (LastAccepts w tag key run → EachLoad w tag key run ⊎ Collision w tag key run) × (Unaltered w tag key run → EachCheck w tag key run)

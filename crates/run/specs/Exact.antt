@@ -4,7 +4,7 @@
 -- taken in its period, by a call or by the check itself, had a stamp ahead of the clock of its time. The period is demand 3's: all that was done since
 -- the accepted check before, or since the start, with the check's own takes at its end.
 --
--- And at any time, as long as the state is not closed, it tells of the period so far: its hashes are those of the entries put and taken, under the key of
+-- And at any time, as long as the state is not closed, it tells of the period so far: its hashes are those of the entries put and taken, under the seal of
 -- the start, and no fault is marked exactly when no stamp was ahead.
 --
 -- The clock is told by what was done: 0 at the start, a put's stamp after that put, 1 after an accepted check. It is the state's clock.
@@ -16,8 +16,10 @@ use mathlib.Core.Logic.{_↔_}
 use Prim.Native.Nat.{ℕ, _<_}
 use Rattle.state.specs.Cells.{Entry}
 use Rattle.state.specs.Multiset.{hash}
+use Rattle.state.specs.Start.{sealed}
 use Rattle.state.specs.Step.{Event, took, put, accepted}
 use Rattle.state.specs.Check.{takes}
+use Rattle.state.specs.declared.Seal.{Seal}
 use Rattle.state.specs.declared.State.{State}
 use Rattle.run.specs.Calls.{check, Lent, lent}
 use Rattle.run.specs.Demand3.{putIn, takenIn, Since, stateAfter, eventsOf, Done, Accepts}
@@ -43,22 +45,22 @@ NoneAhead past es = (p q : List Event) (e : Entry) → es ≡ p ++ (took e ∷ q
 abbrev pub OnePeriod : Type 0
 OnePeriod = (all : List Event) → (period : List Event) × Since all period × ((other : List Event) → Since all other → other ≡ period)
 
--- the state s tells of all that was done since a start with the key k
-pub record Tells (tag : List ℕ → Entry → List ℕ) (k : List ℕ) (s : State) (all period : List Event) (since : Since all period) : Type 0 where
-  pub key : s .key ≡ k
+-- the state s tells of all that was done since a start with the seal k
+pub record Tells (tag : Seal → Entry → List ℕ) (k : Seal) (s : State) (all period : List Event) (since : Since all period) : Type 0 where
+  pub seal : s .seal ≡ k
   pub put : s .put ≡ hash (tag k) (putIn period)
   pub take : s .take ≡ hash (tag k) (takenIn period)
   pub clock : s .clock ≡ clockAfter all
   pub fault : (s .fault ≡ false) ↔ NoneAhead (since .past) period
 
-module _ (w : ℕ) (tag : List ℕ → Entry → List ℕ) where
+module _ (w : ℕ) (tag : Seal → Entry → List ℕ) where
   abbrev pub StateExact : Type 0
   StateExact =
       (key : List ℕ) (run : List Lent) → stateAfter w tag key run .closed ≡ false
-      → (period : List Event) (since : Since (eventsOf w tag key run) period) → Tells tag key (stateAfter w tag key run) (eventsOf w tag key run) period since
+      → (period : List Event) (since : Since (eventsOf w tag key run) period) → Tells tag (sealed key) (stateAfter w tag key run) (eventsOf w tag key run) period since
 
   abbrev pub CheckExact : Type 0
   CheckExact =
       (key : List ℕ) (before : List Lent) (m : List ℕ) → Done w tag key before (lent check m)
       → (period : List Event) (since : Since (eventsOf w tag key before ++ takes w (stateAfter w tag key before) m) period)
-      → Accepts w tag key before m ↔ ((hash (tag key) (putIn period) ≡ hash (tag key) (takenIn period)) × NoneAhead (since .past) period)
+      → Accepts w tag key before m ↔ ((hash (tag (sealed key)) (putIn period) ≡ hash (tag (sealed key)) (takenIn period)) × NoneAhead (since .past) period)

@@ -13,13 +13,14 @@ use mathlib.Core.List.{List, [], _∷_, _++_}
 use Prim.Native.Nat.{ℕ}
 use Rattle.state.specs.Marks.{used}
 use Rattle.state.specs.Cells.{Entry, entryAt}
+use Rattle.state.specs.declared.Seal.{Seal}
 use Rattle.run.specs.Calls.{Call, Lent, lent}
 use Rattle.run.specs.Demand3.{stateAfter, Done, Collision, Unaltered}
 
-abbrev pub HonestNoCollision : ℕ → (List ℕ → Entry → List ℕ) → Type 0
+abbrev pub HonestNoCollision : ℕ → (Seal → Entry → List ℕ) → Type 0
 HonestNoCollision w tag = (key : List ℕ) (run : List Lent) → Unaltered w tag key run → Collision w tag key run → ⊥
 
-abbrev pub UnusedMayChange : ℕ → (List ℕ → Entry → List ℕ) → Type 0
+abbrev pub UnusedMayChange : ℕ → (Seal → Entry → List ℕ) → Type 0
 UnusedMayChange w tag =
     (key : List ℕ) (run : List Lent) (c : Call) (m n : List ℕ) → Done w tag key run (lent c m)
     → ((a : ℕ) → used (stateAfter w tag key run .marks) a ≡ true → entryAt w n a ≡ entryAt w m a)

@@ -25,6 +25,7 @@ use Rattle.state.specs.Calls.{calls}
 use Rattle.state.specs.Table.{Marked, zeroHash}
 use Rattle.state.specs.Effects.{Typed, Ahead, cellIn, valueIn, stampIn, entryIn, withCell, joined, After, takenOf, putOf, Agrees, Accepted, Rejected, Effects}
 use Rattle.state.specs.declared.Hash.{Hash}
+use Rattle.state.specs.declared.Seal.{Seal}
 use Rattle.state.specs.declared.State.{State}
 use Rattle.state.specs.declared.Verdict.the-variants.{Accept, Reject, Nothing}
 use Rattle.state.proofs.Cells.{cell-written, cell-other, value-length}
@@ -61,13 +62,13 @@ hash-joined tag es =
     sym (hash-folds tag [] es) ∙ ap (λ (h : Hash). foldl withTag h (map tag es)) (hash-none tag) ∙ tags-join zeroHash (map tag es) (omega arith)
     ∙ ap (λ (n : ℕ). record { tag = foldl xor (replicate 32 0) (map tag es); number = n % 2 ^ 32 }) (zero-add (length (map tag es)) ∙ length-map es tag)
 
-module _ (tag : List ℕ → Entry → List ℕ) where
+module _ (tag : Seal → Entry → List ℕ) where
   -- ---- entries taken, and entries put, one after the other
 
   pub record Taken (s t : State) (es : List Entry) : Type 0 where
-    pub key : t .key ≡ s .key
+    pub seal : t .seal ≡ s .seal
     pub put : t .put ≡ s .put
-    pub take : t .take ≡ foldl withTag (s .take) (map (tag (s .key)) es)
+    pub take : t .take ≡ foldl withTag (s .take) (map (tag (s .seal)) es)
     pub clock : t .clock ≡ s .clock
     pub fault : (t .fault ≡ true) ↔ ((s .fault ≡ true) ⊎ Ahead (s .clock) es)
     pub closed : t .closed ≡ s .closed
@@ -75,7 +76,7 @@ module _ (tag : List ℕ → Entry → List ℕ) where
   pub taken-each : (es : List Entry) (s : State) → Taken s (foldl (takeEntry tag) s es) es
   unfolding takeEntry
   taken-each [] s = record {
-    key = refl;
+    seal = refl;
     put = refl;
     take = refl;
     clock = refl;
@@ -83,7 +84,7 @@ module _ (tag : List ℕ → Entry → List ℕ) where
     closed = refl;
   }
   taken-each (e ∷ es) s = let r = taken-each es (takeEntry tag s e) in record {
-    key = r .key;
+    seal = r .seal;
     put = r .put;
     take = r .take;
     clock = r .clock;
@@ -98,15 +99,15 @@ module _ (tag : List ℕ → Entry → List ℕ) where
       again (inl f) = inl (marks-fault tag s e (inl f))
       again (inr (d, m, l)) = ⊎-elim (λ q. inl (marks-fault tag s e (inr (subst (λ (x : Entry). s .clock < x .stamp) q l)))) (λ m. inr (d, m, l)) (List·Memᴰ·cases-cons m)
 
-  pub put-each : (es : List Entry) (s : State) → foldl (putEntry tag) s es .put ≡ foldl withTag (s .put) (map (tag (s .key)) es)
+  pub put-each : (es : List Entry) (s : State) → foldl (putEntry tag) s es .put ≡ foldl withTag (s .put) (map (tag (s .seal)) es)
   unfolding putEntry
   put-each [] s = refl
   put-each (e ∷ es) s = put-each es (putEntry tag s e)
 
-  put-key : (es : List Entry) (s : State) → foldl (putEntry tag) s es .key ≡ s .key
+  put-seal : (es : List Entry) (s : State) → foldl (putEntry tag) s es .seal ≡ s .seal
   unfolding putEntry
-  put-key [] s = refl
-  put-key (e ∷ es) s = put-key es (putEntry tag s e)
+  put-seal [] s = refl
+  put-seal (e ∷ es) s = put-seal es (putEntry tag s e)
 
 pub unset : (b : Bool) → (b ≡ true → ⊥) → b ≡ false
 unset true h = absurd (h refl)
@@ -171,18 +172,18 @@ marks-kept rows s m o x e = go (first rows)
     go zero = e
     go (suc n) = refl
 
-module _ (w : ℕ) (tag : List ℕ → Entry → List ℕ) where
-  joins : (key : List ℕ) (h : Hash) (es : List Entry) → h .number < 2 ^ 32 → foldl withTag h (map (tag key) es) ≡ joined w tag key h es
-  joins key h es l =
-      tags-join h (map (tag key) es) l
-      ∙ ap (λ (n : ℕ). record { tag = foldl xor (h .tag) (map (tag key) es); number = (h .number + n) % 2 ^ 32 }) (length-map es (tag key))
+module _ (w : ℕ) (tag : Seal → Entry → List ℕ) where
+  joins : (seal : Seal) (h : Hash) (es : List Entry) → h .number < 2 ^ 32 → foldl withTag h (map (tag seal) es) ≡ joined w tag seal h es
+  joins seal h es l =
+      tags-join h (map (tag seal) es) l
+      ∙ ap (λ (n : ℕ). record { tag = foldl xor (h .tag) (map (tag seal) es); number = (h .number + n) % 2 ^ 32 }) (length-map es (tag seal))
 
   -- after takes alone, and after takes and a put
   take-after : (s t : State) (es : List Entry) → Typed s → Taken tag s t es → After w tag s t es [] (s .clock)
   take-after s t es y r = record {
-    key = r .key;
-    put = r .put ∙ joins (s .key) (s .put) [] (y .puts);
-    take = r .take ∙ joins (s .key) (s .take) es (y .takes);
+    seal = r .seal;
+    put = r .put ∙ joins (s .seal) (s .put) [] (y .puts);
+    take = r .take ∙ joins (s .seal) (s .take) es (y .takes);
     clock = r .clock;
     fault = r .fault;
     closed = r .closed;
@@ -191,9 +192,9 @@ module _ (w : ℕ) (tag : List ℕ → Entry → List ℕ) where
   put-after : (s t : State) (es : List Entry) (e : Entry) → Typed s → Taken tag s t es → After w tag s (putEntry tag t e) es (e ∷ []) (e .stamp)
   unfolding putEntry
   put-after s t es e y r = record {
-    key = r .key;
-    put = ap₂ (λ (h : Hash) (k : List ℕ). withTag h (tag k e)) (r .put) (r .key) ∙ joins (s .key) (s .put) (e ∷ []) (y .puts);
-    take = r .take ∙ joins (s .key) (s .take) es (y .takes);
+    seal = r .seal;
+    put = ap₂ (λ (h : Hash) (k : Seal). withTag h (tag k e)) (r .put) (r .seal) ∙ joins (s .seal) (s .put) (e ∷ []) (y .puts);
+    take = r .take ∙ joins (s .seal) (s .take) es (y .takes);
     clock = refl;
     fault = r .fault;
     closed = r .closed;
@@ -201,7 +202,7 @@ module _ (w : ℕ) (tag : List ℕ → Entry → List ℕ) where
 
   other-marks : (s t : State) (es ps : List Entry) (c : ℕ) (ws : List ℕ) → After w tag s t es ps c → After w tag s (withMarks t ws) es ps c
   unfolding withMarks
-  other-marks s t es ps c ws r = record { key = r .key; put = r .put; take = r .take; clock = r .clock; fault = r .fault; closed = r .closed }
+  other-marks s t es ps c ws r = record { seal = r .seal; put = r .put; take = r .take; clock = r .clock; fault = r .fault; closed = r .closed }
 
   -- ---- add, load, store and remove
 
@@ -278,7 +279,7 @@ module _ (w : ℕ) (tag : List ℕ → Entry → List ℕ) where
         let h = agrees-tells (takeAll w tag s m) e in
         let calm : (s .fault ≡ true) ⊎ Ahead (s .clock) (takenOf w tag s m) → ⊥ = λ f. false≢true (sym (h .1) ∙ all .fault .1 f) in
         record {
-          hashes = sym (all .put) ∙ h .0 ∙ all .take ∙ joins (s .key) (s .take) (takenOf w tag s m) (y .takes);
+          hashes = sym (all .put) ∙ h .0 ∙ all .take ∙ joins (s .seal) (s .take) (takenOf w tag s m) (y .takes);
           faultless = unset (s .fault) (λ f. calm (inl f));
           on-time = λ a l k. let n : s .clock < stampIn w m a → ⊥ = λ g. calm (inr (entryIn w m a, among a l k, g)) in omega arith;
         }
@@ -286,7 +287,7 @@ module _ (w : ℕ) (tag : List ℕ → Entry → List ℕ) where
     agree : Agrees w tag s m → agrees (takeAll w tag s m) ≡ true
     unfolding inUse addresses
     agree g =
-        equal-agrees (takeAll w tag s m) (all .put ∙ g .hashes ∙ sym (all .take ∙ joins (s .key) (s .take) (takenOf w tag s m) (y .takes)))
+        equal-agrees (takeAll w tag s m) (all .put ∙ g .hashes ∙ sym (all .take ∙ joins (s .seal) (s .take) (takenOf w tag s m) (y .takes)))
         (unset (takeAll w tag s m .fault) (λ f. ⊎-elim (λ e. false≢true (sym (g .faultless) ∙ e)) late (all .fault .0 f)))
       where
         late : Ahead (s .clock) (takenOf w tag s m) → ⊥
@@ -345,8 +346,8 @@ module _ (w : ℕ) (tag : List ℕ → Entry → List ℕ) where
     accepted : length m ≡ storeSize w → s .closed ≡ false → Agrees w tag s m → Accepted w tag s m (acceptance w tag s m .seen)
     unfolding acceptance putAll reput opening opened emptyHash addresses cellSize valueSize valueAt
     accepted size c g = record {
-      key = put-key tag (reput w (s .marks) m) (opened s);
-      put = put-each tag (reput w (s .marks) m) (opened s) ∙ joins (s .key) zeroHash (putOf w tag s m) (omega arith);
+      seal = put-seal tag (reput w (s .marks) m) (opened s);
+      put = put-each tag (reput w (s .marks) m) (opened s) ∙ joins (s .seal) zeroHash (putOf w tag s m) (omega arith);
       take = opens w tag s m .take;
       clock = opens w tag s m .clock;
       fault = opens w tag s m .fault ∙ g .faultless;
@@ -359,7 +360,7 @@ module _ (w : ℕ) (tag : List ℕ → Entry → List ℕ) where
 
     rejected : Rejected w tag s m (rejection w tag s m .seen)
     unfolding rejection shut
-    rejected = record { key = refl; put = refl; take = refl; clock = refl; fault = refl; closed = refl; marks = refl; store = refl }
+    rejected = record { seal = refl; put = refl; take = refl; clock = refl; fault = refl; closed = refl; marks = refl; store = refl }
 
     abbrev Checked : Seen → Type 0
     Checked x = ((x .verdict ≡ Accept) × Agrees w tag s m × Accepted w tag s m x) ⊎ ((x .verdict ≡ Reject) × ¬ Agrees w tag s m × Rejected w tag s m x)

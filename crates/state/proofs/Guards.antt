@@ -15,13 +15,14 @@ use Rattle.state.specs.Multiset.{emptyHash, sameHash}
 use Rattle.state.specs.Step.{seen, step, takeEntry, putEntry}
 use Rattle.state.specs.Moves.{call}
 use Rattle.state.specs.Check.{checkRows, opening, opened, agrees, takeAll, putEach, putAll, acceptance, rejection, checkOf}
+use Rattle.state.specs.declared.Seal.{Seal}
 use Rattle.state.specs.declared.State.{State}
 use Rattle.state.specs.declared.Verdict.the-variants.{Accept, Nothing}
 use Rattle.octets.proofs.Same.{both}
 use Rattle.state.proofs.Multiset.{sameHash-true, equal-sameHash}
 use Rattle.state.proofs.Walks.{putEachBelow, put-each}
 
-module _ (tag : List ℕ → Entry → List ℕ) (s : State) where
+module _ (tag : Seal → Entry → List ℕ) (s : State) where
   -- a take marks a fault exactly where one was marked or the stamp is above the clock
   pub fault-marked : (e : Entry) → takeEntry tag s e .fault ≡ true → (s .fault ≡ true) ⊎ (s .clock < e .stamp)
   unfolding takeEntry
@@ -47,7 +48,7 @@ pub equal-agrees : (t : State) → t .put ≡ t .take → t .fault ≡ false →
 unfolding agrees
 equal-agrees t h f = rw (equal-sameHash (t .put) (t .take) h, f)
 
-module _ (w : ℕ) (tag : List ℕ → Entry → List ℕ) (s : State) (m : List ℕ) where
+module _ (w : ℕ) (tag : Seal → Entry → List ℕ) (s : State) (m : List ℕ) where
   -- a check that is not refused accepts exactly where after its takes the hashes are equal and no fault is marked
   pub accepts-tells : first (checkRows w s m) ≡ 0 → checkOf w tag s m .seen .verdict ≡ Accept
       → (takeAll w tag s m .put ≡ takeAll w tag s m .take) × (takeAll w tag s m .fault ≡ false)
@@ -68,7 +69,7 @@ module _ (w : ℕ) (tag : List ℕ → Entry → List ℕ) (s : State) (m : List
 
   -- accepted: the take hash begins empty and the clock is 1, also with no address in use; the rest but the put hash is as it was
   pub record Opens (t : State) : Type 0 where
-    pub key : t .key ≡ s .key
+    pub seal : t .seal ≡ s .seal
     pub take : t .take ≡ emptyHash
     pub clock : t .clock ≡ 1
     pub fault : t .fault ≡ s .fault
@@ -78,14 +79,14 @@ module _ (w : ℕ) (tag : List ℕ → Entry → List ℕ) (s : State) (m : List
   module _ (ws : List ℕ) where
     opens-below : (n : ℕ) → Opens (putEachBelow w tag ws (opened s) m n)
     unfolding putEachBelow opened putEntry opening
-    opens-below zero = record { key = refl; take = refl; clock = refl; fault = refl; closed = refl; marks = refl }
+    opens-below zero = record { seal = refl; take = refl; clock = refl; fault = refl; closed = refl; marks = refl }
     opens-below (suc n) = go (used ws n) (opens-below n)
       where
         x : State
         x = putEachBelow w tag ws (opened s) m n
 
         go : (b : Bool) → Opens x → Opens (cond b (putEntry tag x (opening w m n)) x)
-        go true h = record { key = h .key; take = h .take; clock = refl; fault = h .fault; closed = h .closed; marks = h .marks }
+        go true h = record { seal = h .seal; take = h .take; clock = refl; fault = h .fault; closed = h .closed; marks = h .marks }
         go false h = h
 
     -- whatever addresses are put

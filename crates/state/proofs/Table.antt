@@ -16,12 +16,13 @@ use Rattle.state.specs.Sizes.{keySize, words, addresses, valueSize, cell
 use Rattle.state.specs.Marks.{used}
 use Rattle.state.specs.Cells.{Entry, valueAt}
 use Rattle.state.specs.Multiset.{emptyHash}
-use Rattle.state.specs.Start.{fresh, none, startRows, startOf}
+use Rattle.state.specs.Start.{sealed, fresh, none, startRows, startOf}
 use Rattle.state.specs.Step.{seen, Step, step}
 use Rattle.state.specs.Moves.{shutRow, storeRow, addressRow, bufferRow, takenRow, absentRow, clockRow, addRows, useRows, removeRows, lookRows, call, added, loaded, stored, removed, addOf, loadOf, storeOf, removeOf, lookOf, lookFrom}
 use Rattle.state.specs.Check.{checkRows, agrees, takeAll, acceptance, rejection, checkOf}
 use Rattle.state.specs.Calls.{calls}
 use Rattle.state.specs.Table.{Marked, Answers, Table}
+use Rattle.state.specs.declared.Seal.{Seal}
 use Rattle.state.specs.declared.State.{State}
 use Rattle.state.specs.declared.Verdict.the-variants.{Accept, Reject, Nothing}
 use Rattle.state.proofs.Cells.{value-length}
@@ -62,7 +63,7 @@ either-zero : (b : Bool) (x y : Step) → x .seen .number ≡ 0 → y .seen .num
 either-zero true x y p q = p
 either-zero false x y p q = q
 
-module _ (w : ℕ) (tag : List ℕ → Entry → List ℕ) where
+module _ (w : ℕ) (tag : Seal → Entry → List ℕ) where
   check-answers : (s : State) (m : List ℕ) → Answers (given 7 (s .closed ≡ true) ∷ given 1 (length m ≢ storeSize w) ∷ []) (checkOf w tag s m .seen) s m []
   unfolding checkOf checkRows acceptance rejection
   check-answers s m =
@@ -117,11 +118,11 @@ module _ (w : ℕ) (tag : List ℕ → Entry → List ℕ) where
       (flag 7 (s .closed), (differ 1 (length m) (storeSize w), (above a, (differ 3 (length b) valueSize, (absent s a, (equal 6 (s .clock) (ceiling w), tt))))))
 
   pub table : Table (28 + w) ((28 + w) * 1024) (256 ^ w - 1) (calls w tag)
-  unfolding addresses valueSize cellSize storeSize ceiling keySize words emptyHash fresh none startOf added loaded stored removed addOf loadOf storeOf removeOf valueAt
+  unfolding addresses valueSize cellSize storeSize ceiling keySize words emptyHash sealed fresh none startOf added loaded stored removed addOf loadOf storeOf removeOf valueAt
   table = record {
     start = λ k. first-of (startRows k) (given 8 (length k ≢ keySize) ∷ []) (start-tests k);
-    start-state = λ k e. done-zero (first (startRows k)) (fresh k false) none e;
-    start-refused = λ k h. done-other (first (startRows k)) (fresh k false) none h;
+    start-state = λ k e. done-zero (first (startRows k)) (fresh (sealed k) false) none e;
+    start-refused = λ k h. done-other (first (startRows k)) (fresh (sealed k) false) none h;
     add = λ s m a v. answers (addRows w s m a v) _ s m [] (added w tag s m a v) (add-tests s m a v) refl;
     load = λ s m a o. answers (useRows w s m a o) _ s m o (loaded w tag s m a) (use-tests s m a o) refl;
     store = λ s m a v. answers (useRows w s m a v) _ s m [] (stored w tag s m a v) (use-tests s m a v) refl;

@@ -10,6 +10,7 @@ use Rattle.state.specs.Marks.{used, usedBelow, inUse}
 use Rattle.state.specs.Cells.{Entry, entry, valueAt, entryAt, writeEntry}
 use Rattle.state.specs.Step.{Event, took, put, takeEntry, putEntry}
 use Rattle.state.specs.Check.{taken, opening, reput, opened, takes, puts, writeEach, writeAll, takeEach, takeAll, putEach, putAll}
+use Rattle.state.specs.declared.Seal.{Seal}
 use Rattle.state.specs.declared.State.{State}
 use Rattle.state.proofs.Cells.{write-length, value-length, value-other}
 
@@ -73,7 +74,7 @@ puts-beyond w ws m zero a h g l = refl
 puts-beyond w ws m (suc n) a h g l =
     beyond-step (used ws n) w (putBelow w ws m n) m n a (omega arith) h l (puts-length w ws m n (omega arith) l) ∙ puts-beyond w ws m n a (omega arith) g l
 
-module _ (w : ℕ) (tag : List ℕ → Entry → List ℕ) where
+module _ (w : ℕ) (tag : Seal → Entry → List ℕ) where
   -- ---- the state after the marked addresses below n are taken, and after they are put
 
   unfoldable pub takeEachBelow : List ℕ → State → List ℕ → ℕ → State

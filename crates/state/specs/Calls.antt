@@ -8,6 +8,7 @@ use Rattle.state.specs.Start.{startOf}
 use Rattle.state.specs.Step.{Seen}
 use Rattle.state.specs.Moves.{addOf, loadOf, storeOf, removeOf, lookOf, lookFrom, lowestOf}
 use Rattle.state.specs.Check.{checkOf}
+use Rattle.state.specs.declared.Seal.{Seal}
 use Rattle.state.specs.declared.State.{State}
 use Rattle.state.specs.declared.Started.{Started}
 use Rattle.state.specs.declared.Free.{Free}
@@ -27,7 +28,7 @@ pub record Calls : Type 0 where
   pub lowest-free : State → Free
 
 -- at a stamp's width and a tag
-abbrev pub calls : ℕ → (List ℕ → Entry → List ℕ) → Calls
+abbrev pub calls : ℕ → (Seal → Entry → List ℕ) → Calls
 calls w tag = record {
   start = startOf;
   add = λ s m a v. addOf w tag s m a v .seen;

@@ -10,6 +10,7 @@ use Rattle.state.specs.Cells.{Entry, entry, valueAt, entryAt, writeEntry
 use Rattle.state.specs.Multiset.{emptyHash, sameHash}
 use Rattle.state.specs.Step.{Event, took, put, accepted, seen, Step, step, shut, takeEntry, putEntry}
 use Rattle.state.specs.Moves.{shutRow, storeRow, call}
+use Rattle.state.specs.declared.Seal.{Seal}
 use Rattle.state.specs.declared.State.{State}
 use Rattle.state.specs.declared.Verdict.{Verdict}
 use Rattle.state.specs.declared.Verdict.the-variants.{Accept, Reject, Nothing}
@@ -43,7 +44,7 @@ reput w ws m = map (opening w m) (inUse ws)
 -- a new period: empty hashes, and the clock at 1
 unfoldable pub opened : State → State
 opened s =
-    record { key = s .key; put = emptyHash; take = emptyHash; clock = 1; fault = s .fault; closed = s .closed; marks = s .marks }
+    record { seal = s .seal; put = emptyHash; take = emptyHash; clock = 1; fault = s .fault; closed = s .closed; marks = s .marks }
 
 -- the hashes are equal and no fault is marked
 unfoldable pub agrees : State → Bool
@@ -64,7 +65,7 @@ unfoldable pub writeAll : ℕ → State → List ℕ → List ℕ
 unfolding writeEach
 writeAll w s m = writeEach w (s .marks) m
 
-module _ (w : ℕ) (tag : List ℕ → Entry → List ℕ) where
+module _ (w : ℕ) (tag : Seal → Entry → List ℕ) where
   -- the state after the takes, at the marked addresses and at those in use
   unfoldable pub takeEach : List ℕ → State → List ℕ → State
   takeEach ws s m = foldl (takeEntry tag) s (taken w ws m)

@@ -15,6 +15,7 @@ use Rattle.state.specs.Step.{Seen}
 use Rattle.state.specs.Calls.{Calls}
 use Rattle.state.specs.Table.{Marked, zeroHash}
 use Rattle.state.specs.declared.Hash.{Hash}
+use Rattle.state.specs.declared.Seal.{Seal}
 use Rattle.state.specs.declared.State.{State}
 use Rattle.state.specs.declared.Verdict.the-variants.{Accept, Reject}
 
@@ -51,16 +52,16 @@ module _ (w : ℕ) where
   abbrev pub withCell : List ℕ → ℕ → List ℕ → List ℕ
   withCell m a cell = take ((28 + w) * a) m ++ (cell ++ drop ((28 + w) * a + (28 + w)) m)
 
-  module _ (tag : List ℕ → Entry → List ℕ) where
-    -- a hash that some entries have joined, under a key
-    abbrev pub joined : List ℕ → Hash → List Entry → Hash
-    joined key h es = record { tag = foldl xor (h .tag) (map (tag key) es); number = (h .number + length es) % 2 ^ 32 }
+  module _ (tag : Seal → Entry → List ℕ) where
+    -- a hash that some entries have joined, under a seal
+    abbrev pub joined : Seal → Hash → List Entry → Hash
+    joined seal h es = record { tag = foldl xor (h .tag) (map (tag seal) es); number = (h .number + length es) % 2 ^ 32 }
 
     -- t is the state s after some entries were taken and some put, the clock being c then; all but the marks
     pub record After (s t : State) (takes puts : List Entry) (c : ℕ) : Type 0 where
-      pub key : t .key ≡ s .key
-      pub put : t .put ≡ joined (s .key) (s .put) puts
-      pub take : t .take ≡ joined (s .key) (s .take) takes
+      pub seal : t .seal ≡ s .seal
+      pub put : t .put ≡ joined (s .seal) (s .put) puts
+      pub take : t .take ≡ joined (s .seal) (s .take) takes
       pub clock : t .clock ≡ c
       pub fault : (t .fault ≡ true) ↔ ((s .fault ≡ true) ⊎ Ahead (s .clock) takes)
       pub closed : t .closed ≡ s .closed
@@ -74,14 +75,14 @@ module _ (w : ℕ) where
 
     -- the condition of a check: the hashes agree once these are taken, no fault was marked, and no stamp is ahead of the clock
     pub record Agrees (s : State) (m : List ℕ) : Type 0 where
-      pub hashes : s .put ≡ joined (s .key) (s .take) (takenOf s m)
+      pub hashes : s .put ≡ joined (s .seal) (s .take) (takenOf s m)
       pub faultless : s .fault ≡ false
       pub on-time : (a : ℕ) → a < 1024 → Marked s a → stampIn m a ≤ s .clock
 
     -- accepted: a new period, in which every address in use is put with its value and stamp 1; other cells are as they were
     pub record Accepted (s : State) (m : List ℕ) (x : Seen) : Type 0 where
-      pub key : x .state .key ≡ s .key
-      pub put : x .state .put ≡ joined (s .key) zeroHash (putOf s m)
+      pub seal : x .state .seal ≡ s .seal
+      pub put : x .state .put ≡ joined (s .seal) zeroHash (putOf s m)
       pub take : x .state .take ≡ zeroHash
       pub clock : x .state .clock ≡ 1
       pub fault : x .state .fault ≡ false
@@ -93,7 +94,7 @@ module _ (w : ℕ) where
 
     -- rejected: the state as it was, but closed, and the store as it was
     pub record Rejected (s : State) (m : List ℕ) (x : Seen) : Type 0 where
-      pub key : x .state .key ≡ s .key
+      pub seal : x .state .seal ≡ s .seal
       pub put : x .state .put ≡ s .put
       pub take : x .state .take ≡ s .take
       pub clock : x .state .clock ≡ s .clock

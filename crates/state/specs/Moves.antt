@@ -11,6 +11,7 @@ use Rattle.state.specs.Sizes.{addresses, valueSize, cellSize, storeSize,
 use Rattle.state.specs.Marks.{used, marked, unmarked, lowestFree}
 use Rattle.state.specs.Cells.{Entry, valueAt, entryAt, writeCell, writeEntry}
 use Rattle.state.specs.Step.{took, put, seen, Step, step, withMarks, next, takeEntry, putEntry}
+use Rattle.state.specs.declared.Seal.{Seal}
 use Rattle.state.specs.declared.State.{State}
 use Rattle.state.specs.declared.Verdict.the-variants.{Nothing}
 use Rattle.state.specs.declared.Free.{Free}
@@ -56,7 +57,7 @@ lookRows w m a = storeRow w m ∷ addressRow a ∷ []
 unfoldable pub call : List Row → State → List ℕ → List ℕ → Step → Step
 call rows s m o x = done (first rows) x (step (seen (first rows) Nothing s m o) [])
 
-module _ (w : ℕ) (tag : List ℕ → Entry → List ℕ) where
+module _ (w : ℕ) (tag : Seal → Entry → List ℕ) where
   -- Add: a put, and the mark set
   unfoldable pub added : State → List ℕ → ℕ → List ℕ → Step
   added s m a v =

@@ -1,4 +1,4 @@
--- 01, "The trusted state and the moves": take and put, and what a call gives. The tag is a parameter: `tag key entry`.
+-- 01, "The trusted state and the moves": take and put, and what a call gives. The tag is a parameter: `tag seal entry`.
 -- Assumes nothing.
 use mathlib.Core.Bool.{true, _||_}
 use mathlib.Core.List.{List}
@@ -6,6 +6,7 @@ use Prim.Native.Nat.{ℕ, _+_}
 use lib.Dec.{ltb}
 use Rattle.state.specs.Cells.{Entry, entry}
 use Rattle.state.specs.Multiset.{withTag}
+use Rattle.state.specs.declared.Seal.{Seal}
 use Rattle.state.specs.declared.State.{State}
 use Rattle.state.specs.declared.Verdict.{Verdict}
 
@@ -36,24 +37,24 @@ step x es = record { seen = x; events = es }
 -- the state with other marks
 unfoldable pub withMarks : State → List ℕ → State
 withMarks s ws =
-    record { key = s .key; put = s .put; take = s .take; clock = s .clock; fault = s .fault; closed = s .closed; marks = ws }
+    record { seal = s .seal; put = s .put; take = s .take; clock = s .clock; fault = s .fault; closed = s .closed; marks = ws }
 
 -- the state, closed
 unfoldable pub shut : State → State
 shut s =
-    record { key = s .key; put = s .put; take = s .take; clock = s .clock; fault = s .fault; closed = true; marks = s .marks }
+    record { seal = s .seal; put = s .put; take = s .take; clock = s .clock; fault = s .fault; closed = true; marks = s .marks }
 
 -- the entry that a put of v at a makes: its stamp is the clock, raised by 1
 unfoldable pub next : State → ℕ → List ℕ → Entry
 next s a v = entry a v (s .clock + 1)
 
-module _ (tag : List ℕ → Entry → List ℕ) where
+module _ (tag : Seal → Entry → List ℕ) where
   -- Take of the entry that was read
   unfoldable pub takeEntry : State → Entry → State
   takeEntry s e =
-      record { key = s .key; put = s .put; take = withTag (s .take) (tag (s .key) e); clock = s .clock; fault = s .fault || ltb (s .clock) (e .stamp); closed = s .closed; marks = s .marks }
+      record { seal = s .seal; put = s .put; take = withTag (s .take) (tag (s .seal) e); clock = s .clock; fault = s .fault || ltb (s .clock) (e .stamp); closed = s .closed; marks = s .marks }
 
   -- Put of an entry, whose stamp the clock becomes
   unfoldable pub putEntry : State → Entry → State
   putEntry s e =
-      record { key = s .key; put = withTag (s .put) (tag (s .key) e); take = s .take; clock = e .stamp; fault = s .fault; closed = s .closed; marks = s .marks }
+      record { seal = s .seal; put = withTag (s .put) (tag (s .seal) e); take = s .take; clock = e .stamp; fault = s .fault; closed = s .closed; marks = s .marks }

@@ -30,9 +30,9 @@ zeroHash = record { tag = replicate 32 0; number = 0 }
 pub record Table (cell size ceiling : ℕ) (c : Calls) : Type 0 where
   pub start : (k : List ℕ) → FirstOf (given 8 (length k ≢ 32) ∷ []) (c .start k .number)
   pub start-state : (k : List ℕ) → c .start k .number ≡ 0
-      → c .start k .state ≡ record { key = k; put = zeroHash; take = zeroHash; clock = 0; fault = false; closed = false; marks = replicate 16 0 }
+      → c .start k .state ≡ record { seal = record { key = k }; put = zeroHash; take = zeroHash; clock = 0; fault = false; closed = false; marks = replicate 16 0 }
   pub start-refused : (k : List ℕ) → c .start k .number ≢ 0
-      → c .start k .state ≡ record { key = replicate 32 0; put = zeroHash; take = zeroHash; clock = 0; fault = false; closed = true; marks = replicate 16 0 }
+      → c .start k .state ≡ record { seal = record { key = replicate 32 0 }; put = zeroHash; take = zeroHash; clock = 0; fault = false; closed = true; marks = replicate 16 0 }
   pub add : (s : State) (m : List ℕ) (a : ℕ) (v : List ℕ)
       → Answers (given 7 (s .closed ≡ true) ∷ given 1 (length m ≢ size) ∷ given 2 (1023 < a) ∷ given 3 (length v ≢ 28) ∷ given 4 (Marked s a) ∷ given 6 (s .clock ≡ ceiling) ∷ [])
       (c .add s m a v) s m []

@@ -9,8 +9,13 @@ pub struct Hash {
     pub number: u32,
 }
 
-pub struct State {
+// What keys a tag: all of the state that an entry's tag is made of.
+pub struct Seal {
     pub key: [u8; State::KEY],
+}
+
+pub struct State {
+    pub seal: Seal,
     pub put: Hash,
     pub take: Hash,
     pub clock: u16,
@@ -79,23 +84,28 @@ impl State {
             lent::copy(&mut k, key);
             return Started {
                 number: 0,
-                state: empty(k, false),
+                state: empty(Seal { key: k }, false),
             };
         }
         Started {
             number: 8,
-            state: empty([0u8; State::KEY], true),
+            state: empty(
+                Seal {
+                    key: [0u8; State::KEY],
+                },
+                true,
+            ),
         }
     }
 }
 
 // The state with empty hashes, clock 0 and no mark.
-fn empty(key: [u8; State::KEY], closed: bool) -> State
-    ensures { λ r. ⌜ r ≡ fresh key closed ⌝ }
+fn empty(seal: Seal, closed: bool) -> State
+    ensures { λ r. ⌜ r ≡ fresh seal closed ⌝ }
 {
     let none = [0u8; State::TAG];
     State {
-        key,
+        seal,
         put: Hash {
             tag: none,
             number: 0,

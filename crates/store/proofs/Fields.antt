@@ -10,14 +10,15 @@ use Rattle.state.specs.Multiset.{withTag}
 use Rattle.state.specs.Step.{seen, takeEntry, putEntry}
 use Rattle.state.specs.declared.State.{State}
 use Rattle.state.specs.declared.Hash.{Hash}
+use Rattle.state.specs.declared.Seal.{Seal}
 use Rattle.state.specs.declared.Verdict.the-variants.{Nothing}
 
 -- the state with another take hash and fault mark, and with another put hash and clock
 abbrev pub withTake : State → Hash → Bool → State
-withTake s h f = record { key = s .key; put = s .put; take = h; clock = s .clock; fault = f; closed = s .closed; marks = s .marks }
+withTake s h f = record { seal = s .seal; put = s .put; take = h; clock = s .clock; fault = f; closed = s .closed; marks = s .marks }
 
 abbrev pub withPut : State → Hash → ℕ → State
-withPut s h t = record { key = s .key; put = h; take = s .take; clock = t; fault = s .fault; closed = s .closed; marks = s .marks }
+withPut s h t = record { seal = s .seal; put = h; take = s .take; clock = t; fault = s .fault; closed = s .closed; marks = s .marks }
 
 -- a stamp above the clock, and one that is not
 pub fault-marked : (f : Bool) (c t : ℕ) → c < t → true ≡ (f || ltb c t)
@@ -26,13 +27,13 @@ fault-marked f c t h = rw (lt-ltb c t h) (sym (or-true f))
 pub fault-kept : (f : Bool) (c t : ℕ) → t ≤ c → f ≡ (f || ltb c t)
 fault-kept f c t h = rw (le-ltb c t h) (sym (or-false f))
 
-module _ (w : ℕ) (tag : List ℕ → Entry → List ℕ) (s : State) (m : List ℕ) (a : ℕ) where
+module _ (w : ℕ) (tag : Seal → Entry → List ℕ) (s : State) (m : List ℕ) (a : ℕ) where
   -- a take, by its parts: the new hash h, the tag k, the value v and the stamp t read, the new fault mark f
-  pub take-is : {h : Hash} {k v : List ℕ} {t : ℕ} {f : Bool} → h ≡ withTag (s .take) k → k ≡ tag (s .key) (entry a v t) → v ≡ valueAt w m a → t ≡ stampAt w m a
+  pub take-is : {h : Hash} {k v : List ℕ} {t : ℕ} {f : Bool} → h ≡ withTag (s .take) k → k ≡ tag (s .seal) (entry a v t) → v ≡ valueAt w m a → t ≡ stampAt w m a
       → f ≡ (s .fault || ltb (s .clock) t) → withTake s h f ≡ takeEntry tag s (entryAt w m a)
   unfolding takeEntry entryAt
   take-is p q r u g =
-      ap₂ (withTake s) (p ∙ ap (withTag (s .take)) (q ∙ ap₂ (λ v t. tag (s .key) (entry a v t)) r u)) (g ∙ ap (λ t. s .fault || ltb (s .clock) t) u)
+      ap₂ (withTake s) (p ∙ ap (withTag (s .take)) (q ∙ ap₂ (λ v t. tag (s .seal) (entry a v t)) r u)) (g ∙ ap (λ t. s .fault || ltb (s .clock) t) u)
 
   -- it keeps the clock
   pub take-clock : {t : State} → t ≡ takeEntry tag s (entryAt w m a) → t .clock ≡ s .clock
@@ -40,7 +41,7 @@ module _ (w : ℕ) (tag : List ℕ → Entry → List ℕ) (s : State) (m : List
   take-clock p = ap (λ (t : State). t .clock) p
 
 -- a put, by the new hash h and the tag k
-pub put-is : (tag : List ℕ → Entry → List ℕ) (s : State) (e : Entry) {h : Hash} {k : List ℕ} → h ≡ withTag (s .put) k → k ≡ tag (s .key) e → withPut s h (e .stamp) ≡ putEntry tag s e
+pub put-is : (tag : Seal → Entry → List ℕ) (s : State) (e : Entry) {h : Hash} {k : List ℕ} → h ≡ withTag (s .put) k → k ≡ tag (s .seal) e → withPut s h (e .stamp) ≡ putEntry tag s e
 unfolding putEntry
 put-is tag s e p q = ap (λ (h : Hash). withPut s h (e .stamp)) (p ∙ ap (withTag (s .put)) q)
 

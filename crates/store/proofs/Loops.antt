@@ -15,6 +15,7 @@ use Rattle.state.specs.Marks.{used}
 use Rattle.state.specs.Cells.{Entry, entry, valueAt, entryAt, writeEntry}
 use Rattle.state.specs.Step.{takeEntry, putEntry}
 use Rattle.state.specs.Check.{opening}
+use Rattle.state.specs.declared.Seal.{Seal}
 use Rattle.state.specs.declared.State.{State}
 use Rattle.state.proofs.Walks.{takeEachBelow, putEachBelow, putBelow, puts-length, puts-beyond}
 
@@ -37,7 +38,7 @@ gap f ws a (suc n) s h g =
     ⊎-elim (λ e. ap f (sym e)) (λ l. s n (g n (le-of-suc-le-suc l) (omega arith)) ∙ gap f ws a n s (le-of-suc-le-suc l) (λ b p q. g b p (omega arith)))
     (eq-or-lt-of-le h)
 
-module _ (w : ℕ) (tag : List ℕ → Entry → List ℕ) (ws : List ℕ) (s : State) (m : List ℕ) where
+module _ (w : ℕ) (tag : Seal → Entry → List ℕ) (ws : List ℕ) (s : State) (m : List ℕ) where
   take-gap : {a n : ℕ} → Next ws a n → takeEachBelow w tag ws s m n ≡ takeEachBelow w tag ws s m a
   unfolding takeEachBelow
   take-gap {a} {n} g = gap (takeEachBelow w tag ws s m) ws a n (λ b u. rw u) (g .from) (g .between)

@@ -18,9 +18,9 @@ pub fn take(s: State, store: &[u8], a: usize) -> State
 {
     let value = crate::cells::value_at(store, a);
     let stamp = crate::cells::stamp_at(store, a);
-    let key = s.key;
+    let seal = s.seal;
     let old = s.take;
-    let h = multiset::with_tag(old, entries::tag(key, a as u16, value, stamp));
+    let h = multiset::with_tag(old, entries::tag(seal, a as u16, value, stamp));
     let mut r = s;
     r.take = h;
     if s.clock < stamp {
@@ -42,9 +42,9 @@ pub fn put_entry(
         × (now (store .exit) ≡ writeEntry width (now (store .entry)) (entry a value stamp)) ⌝ }
 {
     crate::cells::write(store, a, value, stamp);
-    let key = s.key;
+    let seal = s.seal;
     let old = s.put;
-    let h = multiset::with_tag(old, entries::tag(key, a as u16, value, stamp));
+    let h = multiset::with_tag(old, entries::tag(seal, a as u16, value, stamp));
     let mut r = s;
     r.put = h;
     r.clock = stamp;

@@ -1,5 +1,6 @@
 // Calls with sizes at their bounds and one beside them: each prints its sizes, the number given, and the bytes of the output or that none changed.
 use crate::cases::part;
+use state::Seal;
 ghost use Prim.Native.Nat.{_≤_};
 
 // Prints a byte in hexadecimal.
@@ -94,12 +95,14 @@ pub fn tags() {
     );
     print_tag(
         b"tag of an entry: ",
-        entries::tag([0u8; 32], 5, [0u8; 28], 3),
+        entries::tag(Seal { key: [0u8; 32] }, 5, [0u8; 28], 3),
     );
     print_tag(
         b"tag of an entry, all bytes different: ",
         entries::tag(
-            *b"ABCDEFGHIJKLMNOPQRSTUVWXYZ012345",
+            Seal {
+                key: *b"ABCDEFGHIJKLMNOPQRSTUVWXYZ012345",
+            },
             0x0203,
             *b"abcdefghijklmnopqrstuvwxyz67",
             0x0405,

@@ -1,8 +1,6 @@
 -- `store::load` meets its contract: by its number. Assumes nothing.
 use borrow.Author.Needs.{needs}
 use mathlib.Core.Path.{sym, _∙_}
-use mir.Syntax.{w16}
-use mir.Val.{Fits}
 use Rattle.state.specs.Sizes.{width}
 use Rattle.state.specs.Moves.{loadOf}
 use Rattle.state.proofs.Ready.{use-ready}
@@ -13,10 +11,12 @@ use Rattle.store.proofs.load.Tie as tie
 loaded-requires : tie.Need-loaded-requires
 loaded-requires c κs =
     let b = c .before .before .before in
-    let x = b .before .before .before .before .before .args in
-    let f : Fits w16 (x .s .clock) = search needs in
+    let a = b .before .before .before .before .before in
+    let x = a .args in
+    -- by the clock's place among what is known of a state: `search` enters too few records to find it
+    let f = a .good .0 .1 .1 .1 .1 .1 .0 .1 in
     let r = use-ready width (x .s) (x .store .now) (x .a) (x .out .now) (sym (b .use-of .ensures) ∙ c .before .before .if1 .taken) in
-    (r .0 .size, r .0 .below, r .1 .size, clock-below (x .s .clock) (f .fits) (r .1 .time))
+    (r .0 .size, r .0 .below, r .1 .size, clock-below (x .s .clock) f (r .1 .time))
 
 returns : tie.Need-returns
 unfolding loadOf
