@@ -4,6 +4,7 @@ use native.Mathlib.Omega.{arith}
 use Rattle.entries.specs.Tag.{tag}
 use Rattle.run.specs.Calls.{step, after}
 use Rattle.run.proofs.Demand3.{demand3}
+use Rattle.run.proofs.Edges.{last-one, handed-back}
 use Rattle.run.proofs.Sense.{honest-no-collision, unused-may-change}
 use Rattle.promises.specs.Library.{library}
 use Rattle.promises.specs.ThirdDemand.{ThirdDemand}
@@ -18,6 +19,8 @@ third-demand = record {
   remove = λ s m a. refl;
   check = λ s m. refl;
   demand = demand3 2 (omega arith) tag;
+  last-one = λ key. last-one 2 tag key;
   honest = honest-no-collision 2 (omega arith) tag;
   unused = unused-may-change 2 (omega arith) tag;
+  handed-back = λ key. handed-back 2 tag key;
 }

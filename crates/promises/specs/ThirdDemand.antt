@@ -13,7 +13,7 @@ use Rattle.state.specs.declared.Seal.{Seal}
 use Rattle.state.specs.declared.State.{State}
 use Rattle.run.specs.Calls.{add, load, store, remove, check, step}
 use Rattle.run.specs.Demand3.{stateAfter, Demand3}
-use Rattle.run.specs.Sense.{HonestNoCollision, UnusedMayChange}
+use Rattle.run.specs.Sense.{LastOne, HonestNoCollision, UnusedMayChange, HandedBack}
 use Rattle.promises.specs.Library.{Library}
 
 pub record ThirdDemand (tag : Seal → Entry → List ℕ) (l : Library) : Type 0 where
@@ -26,6 +26,8 @@ pub record ThirdDemand (tag : Seal → Entry → List ℕ) (l : Library) : Type 
   pub check : (s : State) (m : List ℕ) → l .store .check s m ≡ step 2 tag s m check .seen
   -- the demand, both halves
   pub demand : Demand3 2 tag
-  -- its excuse is not always at hand, and it asks for no cell that is not in use
+  -- there is one value last set; its excuse is not always at hand; it asks for no cell that is not in use, and for no more than what was left
+  pub last-one : LastOne 2 tag
   pub honest : HonestNoCollision 2 tag
   pub unused : UnusedMayChange 2 tag
+  pub handed-back : HandedBack 2 tag
