@@ -24,7 +24,7 @@ use Rattle.state.specs.declared.Free.the-variants.{At, Full as AllUsed}
 use Rattle.state.specs.declared.Verdict.{Verdict}
 use Rattle.state.specs.declared.Verdict.the-variants.{Accept, Reject, Nothing}
 use Rattle.state.proofs.Table.{table}
-use Rattle.state.proofs.Effects.{marked-used, used-marks, unset}
+use Rattle.state.proofs.Marked.{marked-used, used-marks, unset}
 use Rattle.marks.proofs.Sets.{count-length, lowest-at, lowest-full}
 use Rattle.entries.specs.Tag.{tag}
 use Rattle.filter.proofs.Numbers.{numbers}

@@ -13,7 +13,8 @@ use Rattle.state.specs.Multiset.{message}
 use Rattle.state.specs.Start.{sealed}
 use Rattle.state.proofs.Multiset.{same-counts}
 use Rattle.state.proofs.Messages.{message-injective}
-use Rattle.state.proofs.Effects.{effects, hash-joined}
+use Rattle.state.proofs.Joins.{hash-joined}
+use Rattle.state.proofs.Effects.{effects}
 use Rattle.entries.specs.Tag.{tagOf, tag}
 use Rattle.filter.proofs.Trips.{one-to-one}
 use Rattle.going.proofs.Compares.{compared}

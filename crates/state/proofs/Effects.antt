@@ -1,26 +1,24 @@
--- What is taken one after the other joins the take hash, and what is put joins the put hash: by induction on the entries. So each call that is done does what is
--- claimed, and a check's verdict is told by the entry state and the bytes. Assumes nothing.
+-- Each call that is done takes and puts what is claimed, and a check's verdict is told by the entry state and the bytes. Assumes nothing.
 use mathlib.Core.Path.{_≡_, refl, sym, ap, ap₂, _∙_, subst}
-use mathlib.Core.Bool.{Bool, true, false, cond, not, _&&_, _||_, or-true, false≢true}
-use mathlib.Core.List.{List, [], _∷_, _++_, map, foldl, append-nil, List·Memᴰ, List·Memᴰ·head, List·Memᴰ·tail, List·Memᴰ·not-nil, List·Memᴰ·cases-cons, Memᴰ·map, Memᴰ·of-map}
+use mathlib.Core.Bool.{Bool, true, false, cond, false≢true}
+use mathlib.Core.List.{List, [], _∷_, _++_, map, foldl, List·Memᴰ, Memᴰ·map, Memᴰ·of-map}
 use mathlib.Core.Logic.{_⊎_, inl, inr, ⊎-elim, _↔_, _≢_}
 use Prim.Native.Nat.{ℕ, zero, suc, _+_, _*_, _%_, _^_, _<_, _≤_}
-use native.Mathlib.Nat.{zero-add, zero-div}
+use native.Mathlib.Nat.{zero-div}
 use native.Mathlib.Omega.{arith}
 use lib.Dec.{eqb}
 use lib.ListN.{length, take, drop, replicate, length-map, replicate-append-replicate}
-use lib.Seq.{append-snoc}
-use borrow.Author.Tests.{eqb-true, eqb-false, eq-eqb, ne-eqb}
+use borrow.Author.Tests.{eqb-true, eqb-false}
 use Rattle.refusal.specs.Refusal.{Row, first, done}
 use Rattle.octets.specs.Layout.{total, split, octets, bytes}
 use Rattle.octets.specs.Places.{xor}
 use Rattle.state.specs.Sizes.{addresses, valueSize, cellSize, storeSize}
-use Rattle.state.specs.Marks.{used, marked, unmarked, inUse}
+use Rattle.state.specs.Marks.{used, inUse}
 use Rattle.state.specs.Cells.{Entry, entry, valueAt, stampAt, entryAt, writeCell, writeEntry}
-use Rattle.state.specs.Multiset.{hash, emptyHash, withTag}
+use Rattle.state.specs.Multiset.{emptyHash, withTag}
 use Rattle.state.specs.Step.{Seen, seen, Step, step, withMarks, shut, next, takeEntry, putEntry}
 use Rattle.state.specs.Moves.{addRows, useRows, removeRows, call, added, loaded, stored, removed, addOf, loadOf, storeOf, removeOf}
-use Rattle.state.specs.Check.{checkRows, taken, opening, reput, opened, agrees, writeAll, takeAll, putAll, acceptance, rejection, checkOf}
+use Rattle.state.specs.Check.{checkRows, taken, opening, reput, opened, agrees, takeAll, putAll, acceptance, rejection, checkOf}
 use Rattle.state.specs.Calls.{calls}
 use Rattle.state.specs.Table.{Marked, zeroHash}
 use Rattle.state.specs.Effects.{Typed, Ahead, cellIn, valueIn, stampIn, entryIn, withCell, joined, After, takenOf, putOf, Agrees, Accepted, Rejected, Effects}
@@ -29,126 +27,17 @@ use Rattle.state.specs.declared.Seal.{Seal}
 use Rattle.state.specs.declared.State.{State}
 use Rattle.state.specs.declared.Verdict.the-variants.{Accept, Reject, Nothing}
 use Rattle.state.proofs.Cells.{cell-written, cell-other, value-length}
-use Rattle.state.proofs.Multiset.{hash-none, hash-last}
-use Rattle.state.proofs.Marks.{used-marked, used-unmarked}
 use Rattle.state.proofs.InUse.{in-use-only, in-use-all, in-use-rising}
 use Rattle.state.proofs.Walks.{putBelow, write-all, puts-length}
-use Rattle.state.proofs.Guards.{fault-marked, marks-fault, agrees-tells, equal-agrees, opens}
-use Rattle.state.proofs.Ready.{Ready, call-done, call-refused, check-ready, add-ready, use-ready, remove-ready}
+use Rattle.state.proofs.Joins.{tags-join, Taken, taken-each, put-each, put-seal}
+use Rattle.state.proofs.Marked.{unset, marked-used, used-marks, set-mark, clear-mark}
+use Rattle.state.proofs.Guards.{agrees-tells, equal-agrees, opens}
+use Rattle.state.proofs.Ready.{call-done, call-refused, check-ready, add-ready, remove-ready}
 
 bytes-zero : (w : ℕ) → bytes w 0 ≡ replicate w 0
 unfolding bytes split
 bytes-zero zero = refl
 bytes-zero (suc w) = ap₂ _∷_ (ap (λ (n : ℕ). n % 2 ^ 8) (zero-div (2 ^ total (octets w)))) (bytes-zero w)
-
--- ---- a hash that tags join
-
-tags-join : (h : Hash) (ts : List (List ℕ)) → h .number < 2 ^ 32 → foldl withTag h ts ≡ record { tag = foldl xor (h .tag) ts; number = (h .number + length ts) % 2 ^ 32 }
-unfolding withTag
-tags-join h [] l = let n : h .number ≡ (h .number + 0) % 2 ^ 32 = omega arith in λ i. record { tag = h .tag; number = n i }
-tags-join h (t ∷ ts) l =
-    let n : ((h .number + 1) % 2 ^ 32 + length ts) % 2 ^ 32 ≡ (h .number + suc (length ts)) % 2 ^ 32 = omega arith in
-    tags-join (withTag h t) ts (omega arith) ∙ (λ i. record { tag = foldl xor (xor (h .tag) t) ts; number = n i })
-
--- the hash of a multiset is the hash of nothing that all its tags have joined
-hash-folds : (tag : Entry → List ℕ) (p es : List Entry) → foldl withTag (hash tag p) (map tag es) ≡ hash tag (p ++ es)
-hash-folds tag p [] = ap (hash tag) (sym (append-nil p))
-hash-folds tag p (e ∷ es) =
-    ap (λ (h : Hash). foldl withTag h (map tag es)) (sym (hash-last tag p e)) ∙ hash-folds tag (p ++ (e ∷ [])) es ∙ ap (hash tag) (append-snoc p e es)
-
-pub hash-joined : (tag : Entry → List ℕ) (es : List Entry) → hash tag es ≡ record { tag = foldl xor (replicate 32 0) (map tag es); number = length es % 2 ^ 32 }
-unfolding emptyHash
-hash-joined tag es =
-    sym (hash-folds tag [] es) ∙ ap (λ (h : Hash). foldl withTag h (map tag es)) (hash-none tag) ∙ tags-join zeroHash (map tag es) (omega arith)
-    ∙ ap (λ (n : ℕ). record { tag = foldl xor (replicate 32 0) (map tag es); number = n % 2 ^ 32 }) (zero-add (length (map tag es)) ∙ length-map es tag)
-
-module _ (tag : Seal → Entry → List ℕ) where
-  -- ---- entries taken, and entries put, one after the other
-
-  pub record Taken (s t : State) (es : List Entry) : Type 0 where
-    pub seal : t .seal ≡ s .seal
-    pub put : t .put ≡ s .put
-    pub take : t .take ≡ foldl withTag (s .take) (map (tag (s .seal)) es)
-    pub clock : t .clock ≡ s .clock
-    pub fault : (t .fault ≡ true) ↔ ((s .fault ≡ true) ⊎ Ahead (s .clock) es)
-    pub closed : t .closed ≡ s .closed
-
-  pub taken-each : (es : List Entry) (s : State) → Taken s (foldl (takeEntry tag) s es) es
-  unfolding takeEntry
-  taken-each [] s = record {
-    seal = refl;
-    put = refl;
-    take = refl;
-    clock = refl;
-    fault = (inl, λ h. ⊎-elim (λ e. e) (λ a. absurd (List·Memᴰ·not-nil (a .1))) h);
-    closed = refl;
-  }
-  taken-each (e ∷ es) s = let r = taken-each es (takeEntry tag s e) in record {
-    seal = r .seal;
-    put = r .put;
-    take = r .take;
-    clock = r .clock;
-    fault = (
-      (λ h. ⊎-elim (λ f. ⊎-elim inl (λ l. inr (e, List·Memᴰ·head refl, l)) (fault-marked tag s e f)) (λ a. inr (a .0, List·Memᴰ·tail (a .1), a .2)) (r .fault .0 h)),
-      (λ h. r .fault .1 (again h)),
-    );
-    closed = r .closed;
-  }
-    where
-      again : (s .fault ≡ true) ⊎ Ahead (s .clock) (e ∷ es) → (takeEntry tag s e .fault ≡ true) ⊎ Ahead (s .clock) es
-      again (inl f) = inl (marks-fault tag s e (inl f))
-      again (inr (d, m, l)) = ⊎-elim (λ q. inl (marks-fault tag s e (inr (subst (λ (x : Entry). s .clock < x .stamp) q l)))) (λ m. inr (d, m, l)) (List·Memᴰ·cases-cons m)
-
-  pub put-each : (es : List Entry) (s : State) → foldl (putEntry tag) s es .put ≡ foldl withTag (s .put) (map (tag (s .seal)) es)
-  unfolding putEntry
-  put-each [] s = refl
-  put-each (e ∷ es) s = put-each es (putEntry tag s e)
-
-  put-seal : (es : List Entry) (s : State) → foldl (putEntry tag) s es .seal ≡ s .seal
-  unfolding putEntry
-  put-seal [] s = refl
-  put-seal (e ∷ es) s = put-seal es (putEntry tag s e)
-
-pub unset : (b : Bool) → (b ≡ true → ⊥) → b ≡ false
-unset true h = absurd (h refl)
-unset false h = refl
-
--- ---- marks
-
-pub marked-used : (s : State) (a : ℕ) → Marked s a → used (s .marks) a ≡ true
-unfolding used
-marked-used s a h = eq-eqb _ 1 h
-
-pub used-marks : (s : State) (a : ℕ) → used (s .marks) a ≡ true → Marked s a
-unfolding used
-used-marks s a u = eqb-true _ 1 u
-
-module _ (s t : State) (a : ℕ) (sixteen : length (s .marks) ≡ 16) (h : a < addresses) where
-  set-mark : t .marks ≡ marked (s .marks) a → (b : ℕ) → Marked t b ↔ ((b ≡ a) ⊎ Marked s b)
-  set-mark e b = (
-    (λ m. from (eqb b a) refl (sym f ∙ marked-used t b m)),
-    (λ m. used-marks t b (f ∙ ⊎-elim (λ q. rw (eq-eqb b a q)) (λ k. rw (marked-used s b k) (or-true (eqb b a))) m)),
-  )
-    where
-      f : used (t .marks) b ≡ (eqb b a || used (s .marks) b)
-      f = ap (λ (ws : List ℕ). used ws b) e ∙ used-marked (s .marks) a sixteen h b
-
-      from : (d : Bool) → eqb b a ≡ d → (eqb b a || used (s .marks) b) ≡ true → (b ≡ a) ⊎ Marked s b
-      from true q m = inl (eqb-true b a q)
-      from false q m = inr (used-marks s b (sym (rw q) ∙ m))
-
-  clear-mark : t .marks ≡ unmarked (s .marks) a → (b : ℕ) → Marked t b ↔ ((b ≢ a) × Marked s b)
-  clear-mark e b = (
-    (λ m. from (eqb b a) refl (sym f ∙ marked-used t b m)),
-    (λ m. used-marks t b (f ∙ rw (ne-eqb b a (m .0), marked-used s b (m .1)))),
-  )
-    where
-      f : used (t .marks) b ≡ (not (eqb b a) && used (s .marks) b)
-      f = ap (λ (ws : List ℕ). used ws b) e ∙ used-unmarked (s .marks) a sixteen h b
-
-      from : (d : Bool) → eqb b a ≡ d → (not (eqb b a) && used (s .marks) b) ≡ true → (b ≢ a) × Marked s b
-      from true q m = absurd (false≢true (sym (rw q) ∙ m))
-      from false q m = (eqb-false b a q, used-marks s b (sym (rw q) ∙ m))
 
 -- ---- a call that is done
 

@@ -7,5 +7,7 @@ pub mod Walks
 pub mod InUse
 pub mod Guards
 pub mod Table
+pub mod Joins
+pub mod Marked
 pub mod Effects
 pub mod Ready

@@ -1,15 +1,15 @@
 -- Each row of a call tests its condition of the table, and a refused call is what it was given. Assumes nothing.
 use mathlib.Core.Path.{_≡_, refl, sym, ap, _∙_}
-use mathlib.Core.Bool.{Bool, true, false, cond, not, false≢true}
+use mathlib.Core.Bool.{Bool, true, false, cond}
 use mathlib.Core.List.{List, [], _∷_}
 use mathlib.Core.Logic.{_⊎_, inl, inr, _≢_, ⊎-elim}
 use Prim.Native.Nat.{ℕ, zero, suc, _+_, _-_, _*_, _/_, _%_, _^_, _<_}
 use native.Mathlib.Omega.{arith}
-use lib.Dec.{eqb, ltb}
+use lib.Dec.{ltb}
 use lib.ListN.{length, getD}
-use borrow.Author.Tests.{eqb-true, eqb-false, eq-eqb, ltb-true, ltb-false, lt-ltb, not-true, not-false}
-use Rattle.refusal.specs.Refusal.{Row, when, first}
-use Rattle.refusal.specs.Cases.{Case, given, FirstOf}
+use borrow.Author.Tests.{eq-eqb, ltb-true, ltb-false, lt-ltb, not-true, not-false}
+use Rattle.refusal.specs.Refusal.{Row, first}
+use Rattle.refusal.specs.Cases.{Case, given}
 use Rattle.refusal.proofs.Cases.{Tests, TestsAll, flag, equal, differ, first-of}
 use Rattle.refusal.proofs.Passed.{done-zero, done-other}
 use Rattle.state.specs.Sizes.{keySize, words, addresses, valueSize, cellSize, storeSize, ceiling}
@@ -17,8 +17,8 @@ use Rattle.state.specs.Marks.{used}
 use Rattle.state.specs.Cells.{Entry, valueAt}
 use Rattle.state.specs.Multiset.{emptyHash}
 use Rattle.state.specs.Start.{sealed, fresh, none, startRows, startOf}
-use Rattle.state.specs.Step.{seen, Step, step}
-use Rattle.state.specs.Moves.{shutRow, storeRow, addressRow, bufferRow, takenRow, absentRow, clockRow, addRows, useRows, removeRows, lookRows, call, added, loaded, stored, removed, addOf, loadOf, storeOf, removeOf, lookOf, lookFrom}
+use Rattle.state.specs.Step.{seen, Step}
+use Rattle.state.specs.Moves.{addressRow, absentRow, addRows, useRows, removeRows, lookRows, call, added, loaded, stored, removed, addOf, loadOf, storeOf, removeOf}
 use Rattle.state.specs.Check.{checkRows, agrees, takeAll, acceptance, rejection, checkOf}
 use Rattle.state.specs.Calls.{calls}
 use Rattle.state.specs.Table.{Marked, Answers, Table}

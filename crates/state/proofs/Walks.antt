@@ -1,15 +1,15 @@
 -- A walk address by address: the state and the store after the marked addresses below n, and that after the last address they are the walk's. Assumes nothing.
-use mathlib.Core.Path.{_≡_, refl, sym, ap, ap₂, _∙_}
+use mathlib.Core.Path.{_≡_, refl, sym, ap, _∙_}
 use mathlib.Core.Bool.{Bool, true, false, cond}
-use mathlib.Core.List.{List, [], _∷_, _++_, map, map-append, map-map, foldl, foldl-append}
-use Prim.Native.Nat.{ℕ, zero, suc, _+_, _≤_, _<_}
+use mathlib.Core.List.{List, [], _∷_, map, map-append, map-map, foldl, foldl-append}
+use Prim.Native.Nat.{ℕ, zero, suc, _≤_, _<_}
 use native.Mathlib.Omega.{arith}
 use lib.ListN.{length}
 use Rattle.state.specs.Sizes.{addresses, storeSize}
 use Rattle.state.specs.Marks.{used, usedBelow, inUse}
-use Rattle.state.specs.Cells.{Entry, entry, valueAt, entryAt, writeEntry}
-use Rattle.state.specs.Step.{Event, took, put, takeEntry, putEntry}
-use Rattle.state.specs.Check.{taken, opening, reput, opened, takes, puts, writeEach, writeAll, takeEach, takeAll, putEach, putAll}
+use Rattle.state.specs.Cells.{Entry, valueAt, entryAt, writeEntry}
+use Rattle.state.specs.Step.{took, put, takeEntry, putEntry}
+use Rattle.state.specs.Check.{taken, opening, reput, takes, puts, writeEach, writeAll, takeEach, takeAll, putEach}
 use Rattle.state.specs.declared.Seal.{Seal}
 use Rattle.state.specs.declared.State.{State}
 use Rattle.state.proofs.Cells.{write-length, value-length, value-other}
