@@ -3,7 +3,7 @@ use borrow.Author.Needs.{needs}
 use Prim.Native.Nat.{_-_, _≤_}
 use native.Mathlib.Omega.{arith}
 use lib.ListN.{length}
-use mathlib.Core.Path.{_≡_, ap, _∙_}
+use mathlib.Core.Path.{_≡_, _∙_}
 use Rattle.multiset.proofs.Apart.{Tells, tells-nothing, tells-more, tells-all}
 use Rattle.multiset.proofs.same_tag.Statement.{statement}
 use Rattle.multiset.proofs.same_tag.Tie as tie
