@@ -13,7 +13,7 @@ use borrow.Author.Tests.{eqb-true, eq-eqb, ne-eqb}
 use Rattle.state.specs.Sizes.{addresses}
 use Rattle.state.specs.Marks.{used, usedBelow, inUse}
 use Rattle.state.specs.Cells.{Entry}
-use Rattle.state.specs.Step.{Event, took}
+use Rattle.state.specs.TakePut.{Event, took}
 use Rattle.state.specs.Effects.{Rising}
 use Rattle.state.proofs.Marks.{used-below}
 use Rattle.state.proofs.InUse.{in-use-only, in-use-all, in-use-rising}

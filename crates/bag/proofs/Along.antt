@@ -1,6 +1,6 @@
 -- What holds along two lists holds along the two joined, and so in parts: by induction on the first. Assumes nothing.
 use mathlib.Core.List.{List, [], _∷_, _++_, map}
-use Rattle.state.specs.Step.{Event}
+use Rattle.state.specs.TakePut.{Event}
 use Rattle.bag.specs.Bag.{Bag, noted, follow}
 use Rattle.bag.specs.Law.{Along}
 

@@ -9,7 +9,7 @@ use lib.Dec.{ltb}
 use borrow.Author.Tests.{ltb-true, ltb-false, le-ltb}
 use Rattle.state.specs.Cells.{Entry}
 use Rattle.state.specs.Counts.{bit, times}
-use Rattle.state.specs.Step.{Event, took, put, accepted}
+use Rattle.state.specs.TakePut.{Event, took, put, accepted}
 use Rattle.state.proofs.Multiset.{sameEntry-refl}
 use Rattle.bag.specs.Bag.{Bag, empty, listed, noted}
 use Rattle.bag.specs.Law.{TakesHeld}

@@ -6,7 +6,7 @@ use Prim.Native.Nat.{_≤_}
 use lib.Dec.{ltb}
 use borrow.Author.Tests.{ltb-false, le-ltb}
 use Rattle.state.specs.Cells.{Entry}
-use Rattle.state.specs.Step.{Event, took, put, accepted}
+use Rattle.state.specs.TakePut.{Event, took, put, accepted}
 use Rattle.bag.specs.Bag.{Bag, noted, follow}
 use Rattle.bag.proofs.Cases.{neither}
 use Rattle.bag.proofs.Unbroken.{Unbroken, rest-unbroken}

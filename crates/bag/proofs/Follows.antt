@@ -6,7 +6,7 @@ use Prim.Native.Nat.{ℕ}
 use lib.Dec.{ltb}
 use Rattle.state.specs.Cells.{Entry}
 use Rattle.state.specs.Multiset.{hash, withTag}
-use Rattle.state.specs.Step.{took, put, takeEntry, putEntry}
+use Rattle.state.specs.TakePut.{took, put, takeEntry, putEntry}
 use Rattle.state.specs.Check.{opened, agrees}
 use Rattle.state.specs.declared.Hash.{Hash}
 use Rattle.state.specs.declared.Seal.{Seal}

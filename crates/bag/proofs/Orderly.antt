@@ -13,7 +13,7 @@ use borrow.Author.Tests.{eqb-true, eqb-false, eq-eqb}
 use Rattle.state.specs.Cells.{Entry}
 use Rattle.state.specs.Multiset.{hash}
 use Rattle.state.specs.Counts.{sameEntry, bit, times}
-use Rattle.state.specs.Step.{Event, took, put, accepted}
+use Rattle.state.specs.TakePut.{Event, took, put, accepted}
 use Rattle.state.proofs.Multiset.{sameEntry-true, times-last, same-counts}
 use Rattle.state.specs.declared.Hash.{Hash}
 use Rattle.bag.specs.Bag.{Bag, empty, upd, noted}

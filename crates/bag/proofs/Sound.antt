@@ -11,7 +11,7 @@ use lib.Dec.{ltb}
 use borrow.Author.Tests.{ltb-false}
 use Rattle.state.specs.Cells.{Entry}
 use Rattle.state.specs.Counts.{sameEntry, bit, times}
-use Rattle.state.specs.Step.{Event, took, put, accepted}
+use Rattle.state.specs.TakePut.{Event, took, put, accepted}
 use Rattle.state.proofs.Multiset.{sameEntry-true, times-last, times-self}
 use Rattle.bag.specs.Bag.{Bag, empty, listed, noted, follow}
 use Rattle.bag.specs.Law.{Stamped, May, Lawful, TakesHeld, Right}

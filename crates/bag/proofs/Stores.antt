@@ -11,7 +11,7 @@ use lib.ListN.{length}
 use borrow.Author.Tests.{eqb-true, eqb-false}
 use Rattle.state.specs.Sizes.{addresses, valueSize, storeSize}
 use Rattle.state.specs.Cells.{Entry, entryAt, writeCell, writeEntry}
-use Rattle.state.specs.Step.{took, put}
+use Rattle.state.specs.TakePut.{took, put}
 use Rattle.state.proofs.Cells.{write-length, entry-other, entry-written}
 use Rattle.bag.specs.Bag.{Bag, noted, follow}
 use Rattle.bag.specs.Law.{Along}

@@ -3,7 +3,7 @@ use mathlib.Core.Path.{_≡_, refl, sym, ap, _∙_}
 use mathlib.Core.Bool.{Bool, true, false, true≢false}
 use mathlib.Core.List.{List, [], _∷_, _++_, map}
 use Rattle.state.specs.Cells.{Entry}
-use Rattle.state.specs.Step.{Event, took, put, accepted}
+use Rattle.state.specs.TakePut.{Event, took, put, accepted}
 
 abbrev pub Unbroken : List Event → Type 0
 Unbroken es = (p q : List Event) → es ≡ p ++ (accepted ∷ q) → ⊥

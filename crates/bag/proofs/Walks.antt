@@ -9,7 +9,7 @@ use Prim.Native.Nat.{ℕ, _≤_, _<_}
 use lib.ListN.{length}
 use Rattle.state.specs.Sizes.{addresses, storeSize, ceiling}
 use Rattle.state.specs.Cells.{Entry, entryAt}
-use Rattle.state.specs.Step.{Event, took, put}
+use Rattle.state.specs.TakePut.{Event, took, put}
 use Rattle.state.specs.Check.{opening}
 use Rattle.state.proofs.Cells.{value-length}
 use Rattle.bag.specs.Bag.{Bag, empty, noted, follow}

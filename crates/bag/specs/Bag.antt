@@ -8,7 +8,7 @@ use mathlib.Core.Option.{Option, none, some}
 use Prim.Native.Nat.{ℕ}
 use lib.Dec.{eqb, ltb}
 use Rattle.state.specs.Cells.{Entry}
-use Rattle.state.specs.Step.{Event, took, put, accepted}
+use Rattle.state.specs.TakePut.{Event, took, put, accepted}
 
 -- `held` has at each address the entry that was put there and not taken since; `owed` has for each take, in order, the entry that was held there
 pub record Bag : Type 0 where

@@ -11,7 +11,7 @@ use lib.ListN.{length}
 use Rattle.state.specs.Cells.{Entry}
 use Rattle.state.specs.Multiset.{hash}
 use Rattle.state.specs.Counts.{sameEntry, bit, times}
-use Rattle.state.specs.Step.{Event, accepted}
+use Rattle.state.specs.TakePut.{Event, accepted}
 use Rattle.bag.specs.Bag.{Bag, follow}
 use Rattle.bag.specs.Law.{Bare, Lawful, Right}
 

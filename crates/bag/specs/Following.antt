@@ -11,7 +11,7 @@ use lib.ListN.{length, getD}
 use Rattle.state.specs.Sizes.{addresses, valueSize, ceiling}
 use Rattle.state.specs.Cells.{Entry, entryAt}
 use Rattle.state.specs.Multiset.{hash, Fits}
-use Rattle.state.specs.Step.{Event, took, put, accepted}
+use Rattle.state.specs.TakePut.{Event, took, put, accepted}
 use Rattle.state.specs.Check.{agrees}
 use Rattle.state.specs.declared.Seal.{Seal}
 use Rattle.state.specs.declared.State.{State}

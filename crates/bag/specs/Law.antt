@@ -10,7 +10,7 @@ use mathlib.Core.Logic.{_⊎_}
 use Prim.Native.Nat.{ℕ, _+_}
 use Rattle.state.specs.Cells.{Entry}
 use Rattle.state.specs.Multiset.{hash}
-use Rattle.state.specs.Step.{Event, took, put, accepted}
+use Rattle.state.specs.TakePut.{Event, took, put, accepted}
 use Rattle.bag.specs.Bag.{Bag, noted}
 
 -- P holds of each event and the bag before it

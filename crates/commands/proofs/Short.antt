@@ -8,8 +8,8 @@ use borrow.Author.Tests.{ltb-true}
 use lib.Dec.{T, ltb}
 use Rattle.refusal.specs.Refusal.{Row, first}
 use Rattle.state.specs.Sizes.{width}
-use Rattle.state.specs.Step.{Step}
-use Rattle.state.specs.Moves.{addressRow, addRows, useRows, removeRows, call, added, addOf, loaded, loadOf, stored, storeOf, removed, removeOf}
+use Rattle.state.specs.TakePut.{Outcome}
+use Rattle.state.specs.Access.{addressRow, addRows, exchangeRows, removeRows, call, added, addOf, loaded, loadOf, stored, storeOf, removed, removeOf}
 use Rattle.state.specs.Check.{checkRows, agrees, takeAll, acceptance, rejection, checkOf}
 use Rattle.state.specs.declared.State.{State}
 use Rattle.state.specs.declared.Verdict.{Verdict}
@@ -35,7 +35,7 @@ first-small (r ∷ rs) t = go (r .holds) (ltb (r .number) 10) refl (first-small 
     go b false e h = absurd (rw e at t)
 
 -- a call's number, where the call that is done gives 0
-call-small : (rows : List Row) (s : State) (m o : List ℕ) (x : Step) → T (small rows) → x .seen .number ≡ 0 → call rows s m o x .seen .number < 10
+call-small : (rows : List Row) (s : State) (m o : List ℕ) (x : Outcome) → T (small rows) → x .seen .number ≡ 0 → call rows s m o x .seen .number < 10
 unfolding call
 call-small rows s m o x t e = go (first rows) refl
   where
@@ -61,10 +61,10 @@ check-short n Reject h = tt
 check-short n Nothing h = h
 
 pub answer-short : (s : State) (m : List ℕ) (c : Command) → Short (ranCommand s m c .answer)
-unfolding ranCommand small addOf added addRows useRows storeOf stored loadOf loaded removeRows removeOf removed spoilOf
+unfolding ranCommand small addOf added addRows exchangeRows storeOf stored loadOf loaded removeRows removeOf removed spoilOf
 answer-short s m (Add a v) = let v = filledWith v in call-small (addRows width s m a v) s m [] (added width tag s m a v) tt refl
-answer-short s m (Store a v) = let v = filledWith v in call-small (useRows width s m a v) s m [] (stored width tag s m a v) tt refl
-answer-short s m (Load a) = let o = filledWith 0 in load-short _ _ (call-small (useRows width s m a o) s m o (loaded width tag s m a) tt refl)
+answer-short s m (Store a v) = let v = filledWith v in call-small (exchangeRows width s m a v) s m [] (stored width tag s m a v) tt refl
+answer-short s m (Load a) = let o = filledWith 0 in load-short _ _ (call-small (exchangeRows width s m a o) s m o (loaded width tag s m a) tt refl)
 answer-short s m (Remove a) = call-small (removeRows width s m a) s m [] (removed width tag s m a) tt refl
 answer-short s m Check = check-short _ (checkOf width tag s m .seen .verdict) (check-small s m)
 answer-short s m (Spoil a v t) = first-small (addressRow a ∷ []) tt

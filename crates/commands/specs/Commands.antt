@@ -6,8 +6,8 @@ use lib.ListN.{getD, replicate}
 use Rattle.refusal.specs.Refusal.{done, Filled, fills}
 use Rattle.state.specs.Sizes.{width, valueSize}
 use Rattle.state.specs.Cells.{writeCell}
-use Rattle.state.specs.Step.{Seen}
-use Rattle.state.specs.Moves.{addressRow, addOf, loadOf, storeOf, removeOf}
+use Rattle.state.specs.TakePut.{Seen}
+use Rattle.state.specs.Access.{addressRow, addOf, loadOf, storeOf, removeOf}
 use Rattle.state.specs.Check.{checkOf}
 use Rattle.state.specs.declared.State.{State}
 use Rattle.state.specs.declared.Verdict.{Verdict}

@@ -5,7 +5,7 @@ use mathlib.Core.List.{List}
 use Prim.Native.Nat.{ℕ}
 use mir.Val.{boolByte}
 use Rattle.refusal.specs.Refusal.{done}
-use Rattle.state.specs.Step.{Seen, seen}
+use Rattle.state.specs.TakePut.{Seen, seen}
 use Rattle.state.specs.declared.State.{State}
 use Rattle.state.specs.declared.Verdict.{Verdict}
 use Rattle.exports.specs.Held.{byteOf, heldOf}

@@ -9,8 +9,8 @@ use lib.Dec.{eqb}
 use lib.ListN.{length}
 use Rattle.refusal.specs.Refusal.{Row, when, first, done}
 use Rattle.state.specs.Sizes.{width, storeSize}
-use Rattle.state.specs.Step.{Seen, seen, Step, step}
-use Rattle.state.specs.Moves.{call, added, addOf, loaded, loadOf, stored, storeOf, removed, removeOf}
+use Rattle.state.specs.TakePut.{Seen, seen, Outcome, outcome}
+use Rattle.state.specs.Access.{call, added, addOf, loaded, loadOf, stored, storeOf, removed, removeOf}
 use Rattle.state.specs.Check.{agrees, takeAll, acceptance, rejection, checkRows, checkOf}
 use Rattle.state.specs.Calls.{calls}
 use Rattle.state.specs.declared.State.{State}
@@ -50,12 +50,12 @@ unfolding recordOf fieldsOf
 record-back r = simp (family-back, action-back)
 
 -- a call with this number: x where it is done
-placed-at : (n : ℕ) (h : Held) (m o : List ℕ) (x : Step) → x .seen .number ≡ 0 → InPlace h (done n x (step (seen n Nothing (stateOf h) m o) []) .seen)
+placed-at : (n : ℕ) (h : Held) (m o : List ℕ) (x : Outcome) → x .seen .number ≡ 0 → InPlace h (done n x (outcome (seen n Nothing (stateOf h) m o) []) .seen)
 unfolding inPlace
 placed-at zero h m o x e = rw e (state-back (x .seen .state))
 placed-at (suc n) h m o x e = refl
 
-called : (rows : List Row) (h : Held) (m o : List ℕ) (x : Step) → x .seen .number ≡ 0 → InPlace h (call rows (stateOf h) m o x .seen)
+called : (rows : List Row) (h : Held) (m o : List ℕ) (x : Outcome) → x .seen .number ≡ 0 → InPlace h (call rows (stateOf h) m o x .seen)
 unfolding call
 called rows h m o x e = placed-at (first rows) h m o x e
 
@@ -63,7 +63,7 @@ called rows h m o x e = placed-at (first rows) h m o x e
 abbrev agreed : State → List ℕ → Bool
 agreed s m = agrees (takeAll width tag s m)
 
-abbrev judged : Bool → State → List ℕ → Step
+abbrev judged : Bool → State → List ℕ → Outcome
 judged b s m = cond b (acceptance width tag s m) (rejection width tag s m)
 
 judged-number : (b : Bool) (s : State) (m : List ℕ) → judged b s m .seen .number ≡ 0
@@ -90,9 +90,9 @@ unfolding acceptance rejection rank
 judged-tells true s m = (((λ z. refl), (λ z. refl)), ((λ z. absurd (omega (arith, z))), (λ z. absurd (omega (arith, ap rank z)))))
 judged-tells false s m = (((λ z. absurd (omega (arith, z))), (λ z. absurd (omega (arith, ap rank z)))), ((λ z. refl), (λ z. refl)))
 
-rows-tell : (c d : Bool) (s : State) (m : List ℕ) (x : Step) → Tells 0 Accept (x .seen) × Tells 255 Reject (x .seen)
-    → Tells 0 Accept (done (first (when 7 c ∷ when 1 d ∷ [])) x (step (seen (first (when 7 c ∷ when 1 d ∷ [])) Nothing s m []) []) .seen)
-    × Tells 255 Reject (done (first (when 7 c ∷ when 1 d ∷ [])) x (step (seen (first (when 7 c ∷ when 1 d ∷ [])) Nothing s m []) []) .seen)
+rows-tell : (c d : Bool) (s : State) (m : List ℕ) (x : Outcome) → Tells 0 Accept (x .seen) × Tells 255 Reject (x .seen)
+    → Tells 0 Accept (done (first (when 7 c ∷ when 1 d ∷ [])) x (outcome (seen (first (when 7 c ∷ when 1 d ∷ [])) Nothing s m []) []) .seen)
+    × Tells 255 Reject (done (first (when 7 c ∷ when 1 d ∷ [])) x (outcome (seen (first (when 7 c ∷ when 1 d ∷ [])) Nothing s m []) []) .seen)
 rows-tell true d s m x t = refused-tells 7 s m (λ z. omega (arith, z)) (λ z. omega (arith, z))
 rows-tell false true s m x t = refused-tells 1 s m (λ z. omega (arith, z)) (λ z. omega (arith, z))
 rows-tell false false s m x t = t

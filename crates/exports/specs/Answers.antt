@@ -4,8 +4,8 @@ use mathlib.Core.List.{List}
 use Prim.Native.Nat.{ℕ}
 use Rattle.refusal.specs.Refusal.{first, done}
 use Rattle.state.specs.Sizes.{storeSize}
-use Rattle.state.specs.Step.{Seen}
-use Rattle.state.specs.Moves.{lookRows, lookFrom}
+use Rattle.state.specs.TakePut.{Seen}
+use Rattle.state.specs.Access.{lookRows, lookFrom}
 use Rattle.state.specs.declared.Verdict.{Verdict}
 use Rattle.state.specs.declared.Verdict.the-variants.{Accept, Reject, Nothing}
 use Rattle.state.specs.declared.Free.{Free}

@@ -10,7 +10,7 @@ ghost use Rattle.hmac.specs.Hmac.{macOf};
 ghost use Rattle.state.specs.Sizes.{width};
 ghost use Rattle.state.specs.Start.{startOf};
 ghost use Rattle.state.specs.Marks.{countOf};
-ghost use Rattle.state.specs.Moves.{addOf, loadOf, storeOf, removeOf, lowestOf, freeNumber};
+ghost use Rattle.state.specs.Access.{addOf, loadOf, storeOf, removeOf, lowestOf, freeNumber};
 ghost use Rattle.state.specs.Check.{checkOf};
 ghost use Rattle.entries.specs.Tag.{tag};
 ghost use Rattle.filter.specs.Filter.{packOf, unpackOf};

@@ -15,7 +15,7 @@ ghost use Rattle.refusal.specs.Refusal.{done, filled};
 ghost use Rattle.state.specs.Sizes.{width};
 ghost use Rattle.state.specs.Start.{startOf};
 ghost use Rattle.state.specs.Marks.{countOf};
-ghost use Rattle.state.specs.Moves.{addOf, loadOf, storeOf, removeOf, lowestOf, freeNumber};
+ghost use Rattle.state.specs.Access.{addOf, loadOf, storeOf, removeOf, lowestOf, freeNumber};
 ghost use Rattle.state.specs.Check.{checkOf};
 ghost use Rattle.entries.specs.Tag.{tag};
 ghost use Rattle.filter.specs.Filter.{familyNumber, actionNumber, familyOf, actionOf, packOf, unpackOf};

@@ -10,7 +10,7 @@ use lib.ListN.{length, length-append}
 use borrow.Author.Tests.{eq-eqb, ne-eqb, not-true, not-false}
 use Rattle.state.specs.Sizes.{addresses}
 use Rattle.state.specs.Marks.{used, usedBelow, countBelow, firstFrom, lowestFree}
-use Rattle.state.specs.Moves.{lowestOf, freeNumber}
+use Rattle.state.specs.Access.{lowestOf, freeNumber}
 use Rattle.state.specs.declared.Free.the-variants.{At, Full}
 use Rattle.marks.specs.Next.{nextUsed}
 

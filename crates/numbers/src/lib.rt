@@ -3,7 +3,7 @@ use state::State;
 ghost use mathlib.Core.Path.{_≡_};
 ghost use Rattle.refusal.specs.Refusal.{when, first};
 ghost use Rattle.state.specs.Sizes.{width};
-ghost use Rattle.state.specs.Moves.{addRows, useRows, removeRows, lookRows};
+ghost use Rattle.state.specs.Access.{addRows, exchangeRows, removeRows, lookRows};
 ghost use Rattle.state.specs.Check.{checkRows};
 ghost use Rattle.numbers.specs.Rows.{after};
 
@@ -31,8 +31,8 @@ pub fn add(s: State, store: &[u8], a: usize, value: &[u8]) -> u8
 }
 
 // A load's or a store's, by its out buffer or its value.
-pub fn use_of(s: State, store: &[u8], a: usize, buffer: &[u8]) -> u8
-    ensures { λ r. ⌜ r ≡ first (useRows width s (now (store .entry)) a (now (buffer .entry))) ⌝ }
+pub fn exchange(s: State, store: &[u8], a: usize, buffer: &[u8]) -> u8
+    ensures { λ r. ⌜ r ≡ first (exchangeRows width s (now (store .entry)) a (now (buffer .entry))) ⌝ }
 {
     let m = s.marks;
     let n = row(0, 7, s.closed);

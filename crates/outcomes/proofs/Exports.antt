@@ -7,7 +7,7 @@ use Rattle.refusal.specs.Refusal.{filled}
 use Rattle.state.specs.Sizes.{width}
 use Rattle.state.specs.Start.{startOf}
 use Rattle.state.specs.Marks.{countOf}
-use Rattle.state.specs.Moves.{addOf, loadOf, storeOf, removeOf, lowestOf, freeNumber}
+use Rattle.state.specs.Access.{addOf, loadOf, storeOf, removeOf, lowestOf, freeNumber}
 use Rattle.state.specs.Check.{checkOf}
 use Rattle.entries.specs.Tag.{tag}
 use Rattle.filter.specs.Filter.{packOf, unpackOf}

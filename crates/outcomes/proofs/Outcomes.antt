@@ -2,7 +2,7 @@
 use mathlib.Core.Path.{_≡_, refl, sym, ap, _∙_}
 use Prim.Native.Nat.{ℕ}
 use Rattle.refusal.specs.Refusal.{Filled}
-use Rattle.state.specs.Step.{Seen}
+use Rattle.state.specs.TakePut.{Seen}
 use Rattle.state.specs.declared.Moved.{Moved}
 use Rattle.state.specs.declared.Checked.{Checked}
 use Rattle.page.specs.Page.{Page}
@@ -65,7 +65,7 @@ outcomes = record {
   lowest = record { any = λ κs a. tt; one = λ κs a r r′ l l′. plain };
   next-used = record { any = λ κs a. tt; one = λ κs a r r′ l l′. plain };
   number-of-add = record { any = λ κs a. tt; one = λ κs a r r′ l l′. plain };
-  number-of-use = record { any = λ κs a. tt; one = λ κs a r r′ l l′. plain };
+  number-of-exchange = record { any = λ κs a. tt; one = λ κs a r r′ l l′. plain };
   number-of-remove = record { any = λ κs a. tt; one = λ κs a r r′ l l′. plain };
   number-of-check = record { any = λ κs a. tt; one = λ κs a r r′ l l′. plain };
   number-of-look = record { any = λ κs a. tt; one = λ κs a r r′ l l′. plain };

@@ -36,7 +36,7 @@ use Rattle.marks.proofs.count as MarksCount
 use Rattle.marks.proofs.lowest as Lowest
 use Rattle.marks.proofs.next_used as NextUsed
 use Rattle.numbers.proofs.add as NumberOfAdd
-use Rattle.numbers.proofs.use_of as NumberOfUse
+use Rattle.numbers.proofs.exchange as NumberOfExchange
 use Rattle.numbers.proofs.remove as NumberOfRemove
 use Rattle.numbers.proofs.check as NumberOfCheck
 use Rattle.numbers.proofs.look as NumberOfLook
@@ -108,7 +108,7 @@ pub record Outcomes : Type 1 where
   pub lowest : Tight Lowest.ended Lowest.Reads.Asked Lowest.Reads.Learnt
   pub next-used : Tight NextUsed.ended NextUsed.Reads.Asked NextUsed.Reads.Learnt
   pub number-of-add : Tight NumberOfAdd.ended NumberOfAdd.Reads.Asked NumberOfAdd.Reads.Learnt
-  pub number-of-use : Tight NumberOfUse.ended NumberOfUse.Reads.Asked NumberOfUse.Reads.Learnt
+  pub number-of-exchange : Tight NumberOfExchange.ended NumberOfExchange.Reads.Asked NumberOfExchange.Reads.Learnt
   pub number-of-remove : Tight NumberOfRemove.ended NumberOfRemove.Reads.Asked NumberOfRemove.Reads.Learnt
   pub number-of-check : Tight NumberOfCheck.ended NumberOfCheck.Reads.Asked NumberOfCheck.Reads.Learnt
   pub number-of-look : Tight NumberOfLook.ended NumberOfLook.Reads.Asked NumberOfLook.Reads.Learnt

@@ -2,7 +2,7 @@
 use state::Hash;
 use state::State;
 ghost use mathlib.Core.Path.{_≡_};
-ghost use Rattle.state.specs.Step.{shut};
+ghost use Rattle.state.specs.TakePut.{shut};
 ghost use Rattle.state.specs.Check.{opened, agrees};
 
 // Is no fault marked, and are the hashes equal. The mark is no secret and stands first: where it is set the hashes are not looked at.

@@ -16,8 +16,8 @@ use Rattle.state.specs.Marks.{used, countBelow, countOf, firstFrom, lowestFree}
 use Rattle.state.specs.Cells.{writeCell, writeEntry}
 use Rattle.state.specs.Multiset.{message}
 use Rattle.state.specs.Start.{sealed}
-use Rattle.state.specs.Step.{Step, next, withMarks, putEntry}
-use Rattle.state.specs.Moves.{addRows, useRows, removeRows, lookRows, call, added, addOf, loadOf, storeOf, removeOf, lookOf, lowestOf, freeNumber}
+use Rattle.state.specs.TakePut.{Outcome, next, withMarks, putEntry}
+use Rattle.state.specs.Access.{addRows, exchangeRows, removeRows, lookRows, call, added, addOf, loadOf, storeOf, removeOf, lookOf, lowestOf, freeNumber}
 use Rattle.state.specs.Table.{Marked}
 use Rattle.state.specs.declared.State.{State}
 use Rattle.state.proofs.Multiset.{pairs}
@@ -51,7 +51,7 @@ add-stores : (s : State) (m : List ℕ) (a : ℕ) (v : List ℕ) → addOf width
 unfolding addOf added writeEntry next
 add-stores s m a v e =
     let d = done-is (addRows width s m a v) s m [] (added width tag s m a v) e in
-    (ap (λ (r : Step). r .seen .store) (d .1), add-ready width s m a v (d .0) .0 .size)
+    (ap (λ (r : Outcome). r .seen .store) (d .1), add-ready width s m a v (d .0) .0 .size)
 
 example-1 : Example1 library
 unfolding writeCell cellSize valueSize
@@ -67,7 +67,7 @@ unfolding storeSize addresses cellSize valueSize
 example-2 s m v e = let d = add-stores s m 1023 v e in d .0 ∙ last-cell m v (s .clock + 1) (d .1)
 
 example-4 : Example4 library
-unfolding addOf loadOf storeOf removeOf lookOf call addRows useRows removeRows lookRows storeSize addresses cellSize valueSize
+unfolding addOf loadOf storeOf removeOf lookOf call addRows exchangeRows removeRows lookRows storeSize addresses cellSize valueSize
 example-4 s m v z =
     let l = eq-eqb (length m) 30720 (z .store) in
     (simp (z .unclosed, l), simp (z .unclosed, l), simp (z .unclosed, l), simp (z .unclosed, l), simp l)
@@ -81,10 +81,10 @@ unfolding addOf added next withMarks putEntry
 example-5 s m v a z h u = (
   (λ e.
       let d = call-done (addRows width s m a v) s m [] (added width tag s m a v) (rows-at s m v a 65534 z h u e) in
-      (ap (λ (r : Step). r .seen .number) d, ap (λ (r : Step). r .seen .state .clock) d ∙ omega (arith, e))),
+      (ap (λ (r : Outcome). r .seen .number) d, ap (λ (r : Outcome). r .seen .state .clock) d ∙ omega (arith, e))),
   (λ e.
       let f = rows-at s m v a 65535 z h u e in
-      ap (λ (r : Step). r .seen .number) (call-refused (addRows width s m a v) s m [] (added width tag s m a v) (λ q. let y : 6 ≡ 0 = sym f ∙ q in absurd (omega arith))) ∙ f),
+      ap (λ (r : Outcome). r .seen .number) (call-refused (addRows width s m a v) s m [] (added width tag s m a v) (λ q. let y : 6 ≡ 0 = sym f ∙ q in absurd (omega arith))) ∙ f),
 )
 
 pub examples : Examples tag library

@@ -15,8 +15,8 @@ use Rattle.sha256.specs.Sha256.{sha256, digestRows, digestOf}
 use Rattle.hmac.specs.Hmac.{hmac, macRows, macOf}
 use Rattle.state.specs.Sizes.{addresses}
 use Rattle.state.specs.Marks.{used, inUse, countOf}
-use Rattle.state.specs.Step.{Seen}
-use Rattle.state.specs.Moves.{lowestOf, freeNumber, freeAddress}
+use Rattle.state.specs.TakePut.{Seen}
+use Rattle.state.specs.Access.{lowestOf, freeNumber, freeAddress}
 use Rattle.state.specs.Check.{verdictNumber, verdictAccepts}
 use Rattle.state.specs.declared.State.{State}
 use Rattle.state.specs.declared.Free.{Free}

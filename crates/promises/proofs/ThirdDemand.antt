@@ -1,8 +1,8 @@
--- A run's step is the calls' definitions; the demand is proved for every width and every tag, so for these. Assumes nothing.
+-- A run's outcomeOf is the calls' definitions; the demand is proved for every width and every tag, so for these. Assumes nothing.
 use mathlib.Core.Path.{refl}
 use native.Mathlib.Omega.{arith}
 use Rattle.entries.specs.Tag.{tag}
-use Rattle.run.specs.Calls.{step, after}
+use Rattle.run.specs.Calls.{outcomeOf, after}
 use Rattle.run.proofs.Demand3.{demand3}
 use Rattle.run.proofs.Edges.{last-one, handed-back}
 use Rattle.run.proofs.Sense.{honest-no-collision, unused-may-change}
@@ -10,7 +10,7 @@ use Rattle.promises.specs.Library.{library}
 use Rattle.promises.specs.ThirdDemand.{ThirdDemand}
 
 pub third-demand : ThirdDemand tag library
-unfolding step after
+unfolding outcomeOf after
 third-demand = record {
   start = λ key. refl;
   add = λ s m a v. refl;

@@ -9,7 +9,7 @@ use Rattle.octets.specs.Layout.{bytes}
 use Rattle.state.specs.Cells.{Entry, entry}
 use Rattle.state.specs.Multiset.{hash}
 use Rattle.state.specs.Start.{sealed}
-use Rattle.state.specs.Moves.{freeNumber}
+use Rattle.state.specs.Access.{freeNumber}
 use Rattle.state.specs.Table.{Marked, zeroHash}
 use Rattle.state.specs.declared.Seal.{Seal}
 use Rattle.state.specs.declared.State.{State}

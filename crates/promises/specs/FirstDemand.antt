@@ -14,7 +14,7 @@ use denote.Triple.Entry.{Args}
 use denote.Triple.Clauses.{Ended}
 use Rattle.refusal.specs.Cases.{given, FirstOf}
 use Rattle.state.specs.Marks.{inUse}
-use Rattle.state.specs.Moves.{freeNumber, freeAddress}
+use Rattle.state.specs.Access.{freeNumber, freeAddress}
 use Rattle.state.specs.Check.{verdictNumber, verdictAccepts}
 use Rattle.state.specs.Table.{Marked, Table}
 use Rattle.state.specs.declared.State.{State}

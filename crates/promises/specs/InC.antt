@@ -18,7 +18,7 @@ use denote.Ref.{now}
 use denote.Triple.Entry.{Args, Res}
 use denote.Triple.Clauses.{Ended, AtExit}
 use Rattle.refusal.specs.Refusal.{filled}
-use Rattle.state.specs.Moves.{freeNumber}
+use Rattle.state.specs.Access.{freeNumber}
 use Rattle.exports.specs.Held.{stateOf, heldOf}
 use Rattle.exports.specs.Fields.{recordOf, fieldsOf}
 use Rattle.exports.specs.Answers.{left, inPlace, freeOr, goingAnswer}

@@ -3,7 +3,7 @@
 -- accepted check the entries put in its period, no two alike, and the entries taken in it are different multisets with one hash. And if the cells in use
 -- reach each call unaltered, every check that is not refused accepts.
 --
--- The statement is `Demand3` (crate `run`), over a start and a step; here the library's calls are that start and that step. A look, a count and a search for
+-- The statement is `Demand3` (crate `run`), over a start and a outcomeOf; here the library's calls are that start and that outcomeOf. A look, a count and a search for
 -- the lowest free address may stand in a run and change nothing in it. Assumes nothing.
 use mathlib.Core.Path.{_≡_}
 use mathlib.Core.List.{List, []}
@@ -11,7 +11,7 @@ use Prim.Native.Nat.{ℕ}
 use Rattle.state.specs.Cells.{Entry}
 use Rattle.state.specs.declared.Seal.{Seal}
 use Rattle.state.specs.declared.State.{State}
-use Rattle.run.specs.Calls.{add, load, store, remove, check, step}
+use Rattle.run.specs.Calls.{add, load, store, remove, check, outcomeOf}
 use Rattle.run.specs.Demand3.{stateAfter, Demand3}
 use Rattle.run.specs.Sense.{LastOne, HonestNoCollision, UnusedMayChange, HandedBack}
 use Rattle.promises.specs.Library.{Library}
@@ -19,11 +19,11 @@ use Rattle.promises.specs.Library.{Library}
 pub record ThirdDemand (tag : Seal → Entry → List ℕ) (l : Library) : Type 0 where
   -- the runs spoken of are runs of these calls
   pub start : (key : List ℕ) → l .store .start key .state ≡ stateAfter 2 tag key []
-  pub add : (s : State) (m : List ℕ) (a : ℕ) (v : List ℕ) → l .store .add s m a v ≡ step 2 tag s m (add a v) .seen
-  pub load : (s : State) (m : List ℕ) (a : ℕ) (o : List ℕ) → l .store .load s m a o ≡ step 2 tag s m (load a o) .seen
-  pub store : (s : State) (m : List ℕ) (a : ℕ) (v : List ℕ) → l .store .store s m a v ≡ step 2 tag s m (store a v) .seen
-  pub remove : (s : State) (m : List ℕ) (a : ℕ) → l .store .remove s m a ≡ step 2 tag s m (remove a) .seen
-  pub check : (s : State) (m : List ℕ) → l .store .check s m ≡ step 2 tag s m check .seen
+  pub add : (s : State) (m : List ℕ) (a : ℕ) (v : List ℕ) → l .store .add s m a v ≡ outcomeOf 2 tag s m (add a v) .seen
+  pub load : (s : State) (m : List ℕ) (a : ℕ) (o : List ℕ) → l .store .load s m a o ≡ outcomeOf 2 tag s m (load a o) .seen
+  pub store : (s : State) (m : List ℕ) (a : ℕ) (v : List ℕ) → l .store .store s m a v ≡ outcomeOf 2 tag s m (store a v) .seen
+  pub remove : (s : State) (m : List ℕ) (a : ℕ) → l .store .remove s m a ≡ outcomeOf 2 tag s m (remove a) .seen
+  pub check : (s : State) (m : List ℕ) → l .store .check s m ≡ outcomeOf 2 tag s m check .seen
   -- the demand, both halves
   pub demand : Demand3 2 tag
   -- there is one value last set; its excuse is not always at hand; it asks for no cell that is not in use, and for no more than what was left

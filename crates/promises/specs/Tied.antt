@@ -10,7 +10,7 @@ use denote.Triple.Clauses.{Ended, Lasts, AtExit, atExit}
 use Rattle.refusal.specs.Refusal.{filled}
 use Rattle.lent.specs.Lent.{place}
 use Rattle.page.specs.Page.{page, whole}
-use Rattle.state.specs.Step.{seen}
+use Rattle.state.specs.TakePut.{seen}
 use Rattle.state.specs.declared.Verdict.the-variants.{Nothing}
 use Rattle.state.proofs.State.start as Start
 use Rattle.store.proofs.add as Add

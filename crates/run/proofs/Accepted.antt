@@ -5,14 +5,14 @@ use Prim.Native.Nat.{ℕ}
 use native.Mathlib.Omega.{arith}
 use Rattle.state.specs.Cells.{Entry}
 use Rattle.state.specs.Start.{startOf}
-use Rattle.state.specs.Step.{Event, accepted, Step}
+use Rattle.state.specs.TakePut.{Event, accepted, Outcome}
 use Rattle.state.specs.Check.{checkRows, agrees, takes, puts, takeAll, acceptance, rejection, checkOf}
 use Rattle.state.specs.declared.Seal.{Seal}
 use Rattle.state.specs.declared.State.{State}
 use Rattle.state.specs.declared.Verdict.the-variants.{Accept}
 use Rattle.bag.proofs.Lists.{no-place}
 use Rattle.bag.proofs.Cases.{by-cond}
-use Rattle.run.specs.Calls.{Call, check, Lent, lent, step, events}
+use Rattle.run.specs.Calls.{Call, check, Lent, lent, outcomeOf, events}
 use Rattle.run.specs.Demand3.{stateAfter, result, eventsOf, Accepts}
 use Rattle.run.proofs.Does.{still, does}
 use Rattle.run.proofs.Steps.{by-rows}
@@ -20,11 +20,11 @@ use Rattle.run.proofs.Runs.{CallOf, call-of}
 use Rattle.run.proofs.FromStart.{events-append, doneBy, events-none, events-last, run-did}
 
 -- what a check that accepts gives
-pub accepts-gives : (w : ℕ) (tag : Seal → Entry → List ℕ) (s : State) (m : List ℕ) → step w tag s m check .seen .verdict ≡ Accept → step w tag s m check ≡ acceptance w tag s m
-unfolding step checkOf acceptance rejection
+pub accepts-gives : (w : ℕ) (tag : Seal → Entry → List ℕ) (s : State) (m : List ℕ) → outcomeOf w tag s m check .seen .verdict ≡ Accept → outcomeOf w tag s m check ≡ acceptance w tag s m
+unfolding outcomeOf checkOf acceptance rejection
 accepts-gives w tag s m =
-    by-rows s m (λ (r : Step). r .seen .verdict ≡ Accept → r ≡ acceptance w tag s m) (checkRows w s m) [] _
-    (λ e. by-cond (λ (r : Step). r .seen .verdict ≡ Accept → r ≡ acceptance w tag s m) (agrees (takeAll w tag s m)) (λ k v. refl) (λ k v. let z : _≡_ {A = ℕ} 0 1 = cc in absurd (omega arith)))
+    by-rows s m (λ (r : Outcome). r .seen .verdict ≡ Accept → r ≡ acceptance w tag s m) (checkRows w s m) [] _
+    (λ e. by-cond (λ (r : Outcome). r .seen .verdict ≡ Accept → r ≡ acceptance w tag s m) (agrees (takeAll w tag s m)) (λ k v. refl) (λ k v. let z : _≡_ {A = ℕ} 0 1 = cc in absurd (omega arith)))
     (λ n v. let z : _≡_ {A = ℕ} 0 1 = cc in absurd (omega arith))
 
 module _ (w : ℕ) (tag : Seal → Entry → List ℕ) (key : List ℕ) where
@@ -61,7 +61,7 @@ module _ (w : ℕ) (tag : Seal → Entry → List ℕ) (key : List ℕ) where
   check-accepted run past c = (
     puts w s m ++ rest,
     ap (eventsOf w tag key) (c .place) ∙ events-append w tag (startOf key .state) (c .before) (lent check m ∷ c .later)
-        ∙ ap (λ (es : List Event). eventsOf w tag key (c .before) ++ (es ++ rest)) (ap (λ (r : Step). r .events) (accepts-gives w tag s m (c .accepts)))
+        ∙ ap (λ (es : List Event). eventsOf w tag key (c .before) ++ (es ++ rest)) (ap (λ (r : Outcome). r .events) (accepts-gives w tag s m (c .accepts)))
         ∙ regroup (eventsOf w tag key (c .before)) (takes w s m) (puts w s m) rest ∙ ap (λ (es : List Event). es ++ (accepted ∷ (puts w s m ++ rest))) (sym (c .upTo)),
   )
     where

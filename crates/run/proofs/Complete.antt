@@ -8,7 +8,7 @@ use Prim.Native.Nat.{ℕ, _≤_}
 use Rattle.state.specs.Cells.{Entry}
 use Rattle.state.specs.Counts.{times}
 use Rattle.state.specs.Start.{sealed}
-use Rattle.state.specs.Step.{Event}
+use Rattle.state.specs.TakePut.{Event}
 use Rattle.state.specs.Check.{takes}
 use Rattle.state.specs.declared.Seal.{Seal}
 use Rattle.state.specs.declared.State.{State}
@@ -22,8 +22,8 @@ use Rattle.bag.proofs.Lists.{place-stays}
 use Rattle.bag.proofs.Along.{along-append}
 use Rattle.bag.proofs.Orderly.{there, none-some, empty-orderly}
 use Rattle.bag.proofs.Complete.{complete}
-use Rattle.run.specs.Calls.{check, Lent, lent, step}
-use Rattle.run.specs.Demand3.{stateAfter, result, eventsOf, Done, Accepts, Moves, Unaltered, EachCheck}
+use Rattle.run.specs.Calls.{check, Lent, lent, outcomeOf}
+use Rattle.run.specs.Demand3.{stateAfter, result, eventsOf, Done, Accepts, Touches, Unaltered, EachCheck}
 use Rattle.run.proofs.Does.{still, does}
 use Rattle.run.proofs.Checks.{taken-lawful, taken-right, taken-bare}
 use Rattle.run.proofs.Runs.{Left, lent-right}
@@ -35,25 +35,25 @@ module _ (w : ℕ) (one : 1 ≤ w) (tag : Seal → Entry → List ℕ) (key : Li
   abbrev leaves : List Lent → Lent → List ℕ
   leaves run x = result w tag key run x .seen .store
 
-  moving : (run : List Lent) (x : Lent) → Moves w tag key run x ⊎ ((Moves w tag key run x → ⊥) × (doneBy w tag key run x ≡ []))
+  moving : (run : List Lent) (x : Lent) → Touches w tag key run x ⊎ ((Touches w tag key run x → ⊥) × (doneBy w tag key run x ≡ []))
   moving run x = elim (run-did w tag key run x) [ still n ↦ inr ((λ m. n .idle (m .0) (m .1)), n .events) | does o y d ↦ inl (d .number, y) ]
 
-  moves-honest : (run : List Lent) (x : Lent) → Moves w tag key run x → Holds w (bagOf w tag key run) (x .bytes)
+  moves-honest : (run : List Lent) (x : Lent) → Touches w tag key run x → Holds w (bagOf w tag key run) (x .bytes)
       → Right (bagOf w tag key run) (doneBy w tag key run x) × Holds w (follow (bagOf w tag key run) (doneBy w tag key run x)) (leaves run x)
   moves-honest run x m h = moves-does w tag key run x m .1 .honest (run-room w tag key one run) h
 
   abbrev LeftBy : List Lent → Type 0
-  LeftBy run = Left (doneBy w tag key) (eventsOf w tag key) (events-none w tag key) (events-last w tag key) w (Moves w tag key) (λ x. x .bytes) leaves moving moves-honest run (eventsOf w tag key run)
+  LeftBy run = Left (doneBy w tag key) (eventsOf w tag key) (events-none w tag key) (events-last w tag key) w (Touches w tag key) (λ x. x .bytes) leaves moving moves-honest run (eventsOf w tag key run)
 
   -- what such a call is lent holds what is held
-  lent-holds : (run : List Lent) → Unaltered w tag key run → (before later : List Lent) (x : Lent) → run ≡ before ++ (x ∷ later) → Moves w tag key before x → LeftBy before → Holds w (bagOf w tag key before) (x .bytes)
+  lent-holds : (run : List Lent) → Unaltered w tag key run → (before later : List Lent) (x : Lent) → run ≡ before ++ (x ∷ later) → Touches w tag key before x → LeftBy before → Holds w (bagOf w tag key before) (x .bytes)
   lent-holds run u before later x place m (inl n) a e h = none-some (n a) h
   lent-holds run u before later x place m (inr (l, k)) a e h =
       u before later x place m l a (invariant w tag key before .follows (moves-does w tag key before x m .0) .1 .marked a ∙ ap there h) ∙ k a e h
 
   honest : (run : List Lent) → Unaltered w tag key run → Right (empty 0) (eventsOf w tag key run) × LeftBy run
   honest run u =
-      lent-right (doneBy w tag key) (eventsOf w tag key) (events-none w tag key) (events-last w tag key) w (Moves w tag key) (λ x. x .bytes) leaves moving moves-honest run (lent-holds run u)
+      lent-right (doneBy w tag key) (eventsOf w tag key) (events-none w tag key) (events-last w tag key) w (Touches w tag key) (λ x. x .bytes) leaves moving moves-honest run (lent-holds run u)
 
   pub unaltered-part : (p q : List Lent) → Unaltered w tag key (p ++ q) → Unaltered w tag key p
   unaltered-part p q u before later x e = u before (later ++ q) x (place-stays p before x later q e)
@@ -88,7 +88,7 @@ module _ (w : ℕ) (one : 1 ≤ w) (tag : Seal → Entry → List ℕ) (key : Li
 
     -- the second half
     pub complete-at : Accepts w tag key run m
-    unfolding step
+    unfolding outcomeOf
     complete-at =
         let f = check-follows w tag key run m unclosed in
         equal-accepts w tag s m (check-done w tag s m d) (f .put ∙ same-counts (tag (sealed key)) _ _ check-even ∙ sym (f .take)) (f .fault ∙ all-complete .0)

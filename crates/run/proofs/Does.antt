@@ -10,7 +10,7 @@ use lib.ListN.{length}
 use Rattle.state.specs.Sizes.{ceiling}
 use Rattle.state.specs.Marks.{used}
 use Rattle.state.specs.Cells.{Entry}
-use Rattle.state.specs.Step.{Event, accepted, Step}
+use Rattle.state.specs.TakePut.{Event, accepted, Outcome}
 use Rattle.state.specs.Check.{takes}
 use Rattle.state.specs.declared.Seal.{Seal}
 use Rattle.state.specs.declared.State.{State}
@@ -19,7 +19,7 @@ use Rattle.bag.specs.Bag.{Bag, follow}
 use Rattle.bag.specs.Law.{Along, Lawful, Right}
 use Rattle.bag.specs.Following.{Follows, Holds, PutFits, Bytes, TakeFits}
 use Rattle.bag.proofs.Orderly.{there}
-use Rattle.run.specs.Calls.{Call, load, check, moves}
+use Rattle.run.specs.Calls.{Call, load, check, touches}
 use Rattle.run.specs.Demand3.{Sets}
 
 -- an address is in use where an entry is held
@@ -37,7 +37,7 @@ Kept b c a e = Sets c a (e .value) ⊎ (((v : List ℕ) → Sets c a v → ⊥) 
 
 module _ (w : ℕ) (tag : Seal → Entry → List ℕ) (seal : Seal) (s : State) (m : List ℕ) (b : Bag) (c : Call) where
   -- a call that is done, and takes or puts
-  pub record Does (r : Step) : Type 0 where
+  pub record Does (r : Outcome) : Type 0 where
     pub number : r .seen .number ≡ 0
     pub lawful : Lawful (tag seal) b (r .events)
     pub follows : r .seen .state .closed ≡ false → Follows tag seal (r .seen .state) (follow b (r .events))
@@ -50,13 +50,13 @@ module _ (w : ℕ) (tag : Seal → Entry → List ℕ) (seal : Seal) (s : State)
     pub accepts : (p q : List Event) → r .events ≡ p ++ (accepted ∷ q) → (c ≡ check) × (r .seen .verdict ≡ Accept) × (p ≡ takes w s m)
 
   -- a call that is refused, or idle
-  pub record Still (r : Step) : Type 0 where
+  pub record Still (r : Outcome) : Type 0 where
     pub state : r .seen .state ≡ s
     pub store : r .seen .store ≡ m
     pub events : r .events ≡ []
     pub verdict : r .seen .verdict ≡ Nothing
-    pub idle : r .seen .number ≡ 0 → moves c ≡ true → ⊥
+    pub idle : r .seen .number ≡ 0 → touches c ≡ true → ⊥
 
-  pub data Did (r : Step) : Type 0 where
+  pub data Did (r : Outcome) : Type 0 where
     still : Still r → Did r
-    does : s .closed ≡ false → moves c ≡ true → Does r → Did r
+    does : s .closed ≡ false → touches c ≡ true → Does r → Did r

@@ -9,7 +9,7 @@ use lib.ListN.{length}
 use borrow.Author.Tests.{eq-eqb}
 use Rattle.state.specs.Sizes.{storeSize}
 use Rattle.state.specs.Cells.{Entry, entryAt}
-use Rattle.state.specs.Start.{sealed, fresh, none, startOf}
+use Rattle.state.specs.Start.{sealed, fresh, noState, startOf}
 use Rattle.state.specs.Check.{checkRows}
 use Rattle.state.specs.declared.Seal.{Seal}
 use Rattle.state.specs.declared.State.{State}
@@ -18,7 +18,7 @@ use Rattle.state.specs.declared.Verdict.the-variants.{Nothing}
 use Rattle.state.proofs.Starts.{start-done, start-refused}
 use Rattle.bag.proofs.Lists.{by-last, no-place, last-place, place-stays}
 use Rattle.run.specs.Calls.{Call, load, check, Lent, lent, after, events}
-use Rattle.run.specs.Demand3.{Latest, Sets, stateAfter, result, eventsOf, Done, Accepts, LastSet, EachLoad, LastAccepts, Moves, Unaltered}
+use Rattle.run.specs.Demand3.{Latest, Sets, stateAfter, result, eventsOf, Done, Accepts, LastSet, EachLoad, LastAccepts, Touches, Unaltered}
 use Rattle.run.proofs.Does.{Still, still, does}
 use Rattle.run.proofs.Latest.{latest-one}
 use Rattle.run.proofs.FromStart.{bagOf, state-last, events-last, run-did}
@@ -46,7 +46,7 @@ module _ (w : ℕ) (tag : Seal → Entry → List ℕ) (key : List ℕ) where
   StaysStill run x = Still w tag (sealed key) (stateAfter w tag key run) (x .bytes) (bagOf w tag key run) (x .call) (result w tag key run x)
 
   -- a call that is refused, or gets a closed state, or is idle, changes nothing
-  nothing-done : (run : List Lent) (x : Lent) → (stateAfter w tag key run .closed ≡ false → Moves w tag key run x → ⊥) → StaysStill run x
+  nothing-done : (run : List Lent) (x : Lent) → (stateAfter w tag key run .closed ≡ false → Touches w tag key run x → ⊥) → StaysStill run x
   nothing-done run x n = elim (run-did w tag key run x) [ still k ↦ k | does o y d ↦ absurd (n o (d .number, y)) ]
 
   -- where every call is refused the state is the start's, and no load is answered
@@ -65,14 +65,14 @@ module _ (w : ℕ) (tag : Seal → Entry → List ℕ) (key : List ℕ) where
           (state-last w tag key run x ∙ k .state ∙ h .0, events-last w tag key run x ∙ ap₂ _++_ (h .1) (k .events)))
 
   -- from a refused start the state stays as it is, and no call does anything: no check gives a verdict
-  refused-still : (run : List Lent) (x : Lent) → stateAfter w tag key run ≡ none → StaysStill run x
-  unfolding none fresh
+  refused-still : (run : List Lent) (x : Lent) → stateAfter w tag key run ≡ noState → StaysStill run x
+  unfolding noState fresh
   refused-still run x e = nothing-done run x (λ o d. false≢true (sym o ∙ ap (λ (s : State). s .closed) e))
 
-  pub refused-start : (length key ≡ 32 → ⊥) → (run : List Lent) → (stateAfter w tag key run ≡ none) × (eventsOf w tag key run ≡ [])
+  pub refused-start : (length key ≡ 32 → ⊥) → (run : List Lent) → (stateAfter w tag key run ≡ noState) × (eventsOf w tag key run ≡ [])
   unfolding after events
   refused-start n =
-      by-last (λ (run : List Lent). (stateAfter w tag key run ≡ none) × (eventsOf w tag key run ≡ [])) (ap (λ (r : Started). r .state) (start-refused key n), refl)
+      by-last (λ (run : List Lent). (stateAfter w tag key run ≡ noState) × (eventsOf w tag key run ≡ [])) (ap (λ (r : Started). r .state) (start-refused key n), refl)
       (λ run x h.
       let k = refused-still run x (h .0) in
       (state-last w tag key run x ∙ k .state ∙ h .0, events-last w tag key run x ∙ ap₂ _++_ (h .1) (k .events)))
@@ -87,7 +87,7 @@ module _ (w : ℕ) (tag : Seal → Entry → List ℕ) (key : List ℕ) where
       let c : startOf key .state .closed ≡ false = ap (λ (r : Started). r .state .closed) (start-done key h) in
       complete-at w one tag key [] m (λ before later x e d l a u. absurd (never before later x e l)) (check-number w tag (startOf key .state) m (rw (c, eq-eqb (length m) (storeSize w) k)))
     where
-      never : (before later : List Lent) (x : Lent) → lent check m ∷ [] ≡ before ++ (x ∷ later) → Latest (Moves w tag key) before → ⊥
+      never : (before later : List Lent) (x : Lent) → lent check m ∷ [] ≡ before ++ (x ∷ later) → Latest (Touches w tag key) before → ⊥
       never before later x e l =
           elim (last-place [] (lent check m) before x later e) [ inl (r, f, g) ↦ no-place before x r f | inr (f, g) ↦ no-place (l .before) (l .call) (l .later) (sym f ∙ l .place) ]
 
@@ -103,7 +103,7 @@ module _ (w : ℕ) (tag : Seal → Entry → List ℕ) (key : List ℕ) where
       Back : List Lent → Type 0
       Back mid =
           (y : Lent) (later : List Lent) → run ≡ l .before ++ (l .call ∷ (mid ++ (y ∷ later)))
-          → ((p q : List Lent) (x : Lent) → mid ≡ p ++ (x ∷ q) → Moves w tag key (l .before ++ (l .call ∷ p)) x → ⊥) → y .bytes ≡ store
+          → ((p q : List Lent) (x : Lent) → mid ≡ p ++ (x ∷ q) → Touches w tag key (l .before ++ (l .call ∷ p)) x → ⊥) → y .bytes ≡ store
 
       back : (mid : List Lent) → Back mid
       back =

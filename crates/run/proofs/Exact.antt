@@ -9,7 +9,7 @@ use Rattle.refusal.specs.Refusal.{first}
 use Rattle.state.specs.Cells.{Entry}
 use Rattle.state.specs.Multiset.{hash}
 use Rattle.state.specs.Start.{sealed}
-use Rattle.state.specs.Step.{Event, took, put, accepted, Step}
+use Rattle.state.specs.TakePut.{Event, took, put, accepted, Outcome}
 use Rattle.state.specs.Check.{checkRows, agrees, takes, takeAll, acceptance, rejection, checkOf}
 use Rattle.state.specs.declared.Seal.{Seal}
 use Rattle.state.specs.declared.State.{State}
@@ -20,7 +20,7 @@ use Rattle.bag.specs.Following.{Follows}
 use Rattle.bag.proofs.Cases.{by-cond}
 use Rattle.bag.proofs.Orderly.{empty-orderly, stays-orderly}
 use Rattle.bag.proofs.Faults.{on-time, calm-after}
-use Rattle.run.specs.Calls.{check, step, Lent}
+use Rattle.run.specs.Calls.{check, outcomeOf, Lent}
 use Rattle.run.specs.Demand3.{NoTwoAlike, putIn, Since, stateAfter, eventsOf}
 use Rattle.run.specs.Exact.{tick, clockAfter, Ahead, NoneAhead, OnePeriod, Tells, StateExact, CheckExact}
 use Rattle.run.proofs.Checks.{taken-follows}
@@ -74,14 +74,14 @@ module _ (all period : List Event) (since : Since all period) where
 pub one-period : OnePeriod
 one-period all = let now = since-now all in (now .0, now .1, λ other t. since-one all (now .0) other (now .1) t)
 
-pub check-done : (w : ℕ) (tag : Seal → Entry → List ℕ) (s : State) (m : List ℕ) → step w tag s m check .seen .number ≡ 0 → first (checkRows w s m) ≡ 0
-unfolding step checkOf
+pub check-done : (w : ℕ) (tag : Seal → Entry → List ℕ) (s : State) (m : List ℕ) → outcomeOf w tag s m check .seen .number ≡ 0 → first (checkRows w s m) ≡ 0
+unfolding outcomeOf checkOf
 check-done w tag s m = done-rows s m (checkRows w s m) [] _
 
-pub check-number : (w : ℕ) (tag : Seal → Entry → List ℕ) (s : State) (m : List ℕ) → first (checkRows w s m) ≡ 0 → step w tag s m check .seen .number ≡ 0
-unfolding step checkOf acceptance rejection
+pub check-number : (w : ℕ) (tag : Seal → Entry → List ℕ) (s : State) (m : List ℕ) → first (checkRows w s m) ≡ 0 → outcomeOf w tag s m check .seen .number ≡ 0
+unfolding outcomeOf checkOf acceptance rejection
 check-number w tag s m e =
-    ap (λ (r : Step). r .seen .number) (call-done (checkRows w s m) s m [] _ e) ∙ by-cond (λ (r : Step). r .seen .number ≡ 0) (agrees (takeAll w tag s m)) (λ k. refl) (λ k. refl)
+    ap (λ (r : Outcome). r .seen .number) (call-done (checkRows w s m) s m [] _ e) ∙ by-cond (λ (r : Outcome). r .seen .number ≡ 0) (agrees (takeAll w tag s m)) (λ k. refl) (λ k. refl)
 
 pub state-exact : (w : ℕ) (tag : Seal → Entry → List ℕ) → StateExact w tag
 state-exact w tag key run o period since = follows-tells (eventsOf w tag key run) period since tag (sealed key) (stateAfter w tag key run) (invariant w tag key run .follows o .0)
@@ -95,7 +95,7 @@ check-follows w tag key run m o =
     subst (Follows tag (sealed key) (takeAll w tag s m)) (sym (foldl-append noted (empty 0) (eventsOf w tag key run) (takes w s m))) (taken-follows w tag (sealed key) s m (bagOf w tag key run) (k .0) (k .1))
 
 pub check-exact : (w : ℕ) (tag : Seal → Entry → List ℕ) → CheckExact w tag
-unfolding step
+unfolding outcomeOf
 check-exact w tag key run m d period since = (
   (λ a. let k = accepts-tells w tag s m e a in (sym (h .put) ∙ k .0 ∙ h .take, h .fault .0 (k .1))),
   λ k. equal-accepts w tag s m e (h .put ∙ k .0 ∙ sym (h .take)) (h .fault .1 (k .1)),

@@ -8,8 +8,8 @@ use lib.Dec.{eqb}
 use lib.ListN.{length}
 use borrow.Author.Tests.{eqb-true, eqb-false}
 use Rattle.state.specs.Cells.{Entry}
-use Rattle.state.specs.Start.{sealed, fresh, none, startOf}
-use Rattle.state.specs.Step.{Event, Step}
+use Rattle.state.specs.Start.{sealed, fresh, noState, startOf}
+use Rattle.state.specs.TakePut.{Event, Outcome}
 use Rattle.state.specs.declared.Seal.{Seal}
 use Rattle.state.specs.declared.State.{State}
 use Rattle.state.specs.declared.Started.{Started}
@@ -20,14 +20,14 @@ use Rattle.bag.specs.Bag.{Bag, empty, noted, follow}
 use Rattle.bag.specs.Law.{May, Lawful}
 use Rattle.bag.specs.Following.{Follows}
 use Rattle.bag.proofs.Along.{along-append}
-use Rattle.run.specs.Calls.{Call, Lent, step, after, events}
-use Rattle.run.specs.Demand3.{stateAfter, result, eventsOf, Moves}
+use Rattle.run.specs.Calls.{Call, Lent, outcomeOf, after, events}
+use Rattle.run.specs.Demand3.{stateAfter, result, eventsOf, Touches}
 use Rattle.run.proofs.Does.{Fit, Does, Did, still, does}
 use Rattle.run.proofs.Steps.{step-did}
 use Rattle.run.proofs.Runs.{by-calls}
 
 -- a start by its one row
-pub by-start : (key : List ℕ) (P : State → Type 0) → (length key ≡ 32 → P (fresh (sealed key) false)) → ((length key ≡ 32 → ⊥) → P none) → P (startOf key .state)
+pub by-start : (key : List ℕ) (P : State → Type 0) → (length key ≡ 32 → P (fresh (sealed key) false)) → ((length key ≡ 32 → ⊥) → P noState) → P (startOf key .state)
 by-start key P f g = go (eqb (length key) 32) refl
   where
     go : (b : Bool) → eqb (length key) 32 ≡ b → P (startOf key .state)
@@ -38,13 +38,13 @@ module _ (w : ℕ) (tag : Seal → Entry → List ℕ) where
   after-append : (s : State) (p q : List Lent) → after w tag s (p ++ q) ≡ after w tag (after w tag s p) q
   unfolding after
   after-append s [] q = refl
-  after-append s (x ∷ p) q = after-append (step w tag s (x .bytes) (x .call) .seen .state) p q
+  after-append s (x ∷ p) q = after-append (outcomeOf w tag s (x .bytes) (x .call) .seen .state) p q
 
   pub events-append : (s : State) (p q : List Lent) → events w tag s (p ++ q) ≡ events w tag s p ++ events w tag (after w tag s p) q
   unfolding after events
   events-append s [] q = refl
   events-append s (x ∷ p) q =
-      let r = step w tag s (x .bytes) (x .call) in
+      let r = outcomeOf w tag s (x .bytes) (x .call) in
       ap (λ (es : List Event). r .events ++ es) (events-append (r .seen .state) p q)
       ∙ sym (append-assoc (r .events) (events w tag (r .seen .state) p) (events w tag (after w tag (r .seen .state) p) q))
 
@@ -80,7 +80,7 @@ module _ (w : ℕ) (tag : Seal → Entry → List ℕ) where
       pub follows : s .closed ≡ false → Follows tag (sealed key) s (follow (empty 0) all) × Fit s (follow (empty 0) all)
 
     begins : Invariant (startOf key .state) []
-    unfolding none fresh empty
+    unfolding noState fresh empty
     begins =
         by-start key (λ (s : State). Invariant s [])
         (λ e.
@@ -90,7 +90,7 @@ module _ (w : ℕ) (tag : Seal → Entry → List ℕ) where
         })
         (λ e. record { lawful = tt; follows = λ o. absurd (true≢false o) })
 
-    goes-on : (s : State) (m : List ℕ) (all : List Event) (c : Call) (r : Step) → Invariant s all → Did w tag (sealed key) s m (follow (empty 0) all) c r → Invariant (r .seen .state) (all ++ r .events)
+    goes-on : (s : State) (m : List ℕ) (all : List Event) (c : Call) (r : Outcome) → Invariant s all → Did w tag (sealed key) s m (follow (empty 0) all) c r → Invariant (r .seen .state) (all ++ r .events)
     goes-on s m all c r i (still n) =
         subst (λ (x : State). Invariant x (all ++ r .events)) (sym (n .state)) (subst (Invariant s) (sym (ap (λ (es : List Event). all ++ es) (n .events) ∙ append-nil all)) i)
     goes-on s m all c r i (does o y d) =
@@ -114,6 +114,6 @@ module _ (w : ℕ) (tag : Seal → Entry → List ℕ) where
     run-did run x = step-did w tag (sealed key) (stateAfter w tag key run) (x .bytes) (bagOf run) (invariant run .follows) (x .call)
 
     -- one that is not refused, and no look, count or lowest free, gets a state that is not closed
-    pub moves-does : (run : List Lent) (x : Lent) → Moves w tag key run x
+    pub moves-does : (run : List Lent) (x : Lent) → Touches w tag key run x
         → (stateAfter w tag key run .closed ≡ false) × Does w tag (sealed key) (stateAfter w tag key run) (x .bytes) (bagOf run) (x .call) (result w tag key run x)
     moves-does run x m = elim (run-did run x) [ still n ↦ absurd (n .idle (m .0) (m .1)) | does o y d ↦ (o, d) ]

@@ -1,5 +1,5 @@
 pub mod Does
-pub mod Moves
+pub mod Access
 pub mod Checks
 pub mod Steps
 pub mod Latest

@@ -7,22 +7,22 @@ use mathlib.Core.Logic.{_⊎_, inl, inr}
 use Prim.Native.Nat.{ℕ}
 use Rattle.state.specs.Cells.{Entry}
 use Rattle.state.specs.Start.{startOf}
-use Rattle.state.specs.Step.{Event}
+use Rattle.state.specs.TakePut.{Event}
 use Rattle.state.specs.declared.Seal.{Seal}
 use Rattle.bag.specs.Bag.{Bag, empty, noted, follow}
 use Rattle.bag.specs.Law.{TakesHeld, Right}
 use Rattle.bag.proofs.Along.{along-split}
 use Rattle.bag.proofs.Orderly.{none-some}
-use Rattle.run.specs.Calls.{Call, load, Lent, lent, moves, events}
+use Rattle.run.specs.Calls.{Call, load, Lent, lent, touches, events}
 use Rattle.run.specs.Demand3.{Sets, result, eventsOf, SetAt, LastSet, EachLoad}
 use Rattle.run.proofs.Does.{still, does}
 use Rattle.run.proofs.Runs.{kept-latest}
 use Rattle.run.proofs.FromStart.{events-append, doneBy, bagOf, events-none, events-last, run-did, moves-does}
 
 -- a call that sets a value takes or puts
-sets-moves : (c : Call) (a : ℕ) (v : List ℕ) → Sets c a v → moves c ≡ true
-sets-moves c a v (inl e) = ap moves e
-sets-moves c a v (inr e) = ap moves e
+sets-moves : (c : Call) (a : ℕ) (v : List ℕ) → Sets c a v → touches c ≡ true
+sets-moves c a v (inl e) = ap touches e
+sets-moves c a v (inr e) = ap touches e
 
 module _ (w : ℕ) (tag : Seal → Entry → List ℕ) (key : List ℕ) where
   -- the value that is held at an address after all that was done

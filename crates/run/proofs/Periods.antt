@@ -5,7 +5,7 @@ use mathlib.Core.Bool.{Bool, true, false, true≢false}
 use mathlib.Core.List.{List, [], _∷_, _++_, append-nil, append-assoc, tail-eq-of-cons-eq, foldl-append}
 use mathlib.Core.Logic.{_⊎_, inl, inr, ⊎-elim}
 use Prim.Native.Nat.{ℕ}
-use Rattle.state.specs.Step.{Event, took, put, accepted}
+use Rattle.state.specs.TakePut.{Event, took, put, accepted}
 use Rattle.bag.specs.Bag.{Bag, empty, noted, follow}
 use Rattle.bag.proofs.Lists.{by-last, place-in, last-place, no-place}
 use Rattle.bag.proofs.Unbroken.{Unbroken, rest-unbroken}

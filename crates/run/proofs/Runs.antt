@@ -4,7 +4,7 @@ use mathlib.Core.Path.{_≡_, refl, sym, ap, _∙_, subst}
 use mathlib.Core.List.{List, [], _∷_, _++_, append-nil, foldl-append}
 use mathlib.Core.Logic.{_⊎_, inl, inr, ⊎-map}
 use Prim.Native.Nat.{ℕ}
-use Rattle.state.specs.Step.{Event}
+use Rattle.state.specs.TakePut.{Event}
 use Rattle.bag.specs.Bag.{Bag, empty, noted, follow}
 use Rattle.bag.specs.Law.{Bare, TakesHeld, Right}
 use Rattle.bag.specs.Following.{Holds}

@@ -8,13 +8,13 @@ use Prim.Native.Nat.{ℕ, _≤_}
 use Rattle.state.specs.Marks.{used}
 use Rattle.state.specs.Cells.{Entry, entryAt}
 use Rattle.state.specs.Counts.{times}
-use Rattle.state.specs.Step.{Event, Step}
-use Rattle.state.specs.Moves.{call}
+use Rattle.state.specs.TakePut.{Event, Outcome}
+use Rattle.state.specs.Access.{call}
 use Rattle.state.specs.Check.{takes, acceptance}
 use Rattle.state.specs.declared.Seal.{Seal}
 use Rattle.bag.proofs.Lists.{last-place, place-stays}
 use Rattle.run.specs.Calls.{store, check, Lent, lent}
-use Rattle.run.specs.Demand3.{Latest, stateAfter, result, eventsOf, Done, Moves, Unaltered}
+use Rattle.run.specs.Demand3.{Latest, stateAfter, result, eventsOf, Done, Touches, Unaltered}
 use Rattle.run.specs.Sense.{HonestNoCollision, UnusedMayChange}
 use Rattle.run.proofs.Periods.{since-puts, since-takes}
 use Rattle.run.proofs.Accepted.{accepts-gives}
@@ -35,7 +35,7 @@ honest-no-collision w one tag key run u c =
     all = eventsOf w tag key (c .before) ++ takes w (stateAfter w tag key (c .before)) (c .bytes)
 
     done : Done w tag key (c .before) (lent check (c .bytes))
-    done = ap (λ (r : Step). r .seen .number) (accepts-gives w tag (stateAfter w tag key (c .before)) (c .bytes) (c .accepts))
+    done = ap (λ (r : Outcome). r .seen .number) (accepts-gives w tag (stateAfter w tag key (c .before)) (c .bytes) (c .accepts))
 
     here : Unaltered w tag key (c .before ++ (lent check (c .bytes) ∷ []))
     here = unaltered-part w one tag key (c .before ++ (lent check (c .bytes) ∷ [])) (c .later) (subst (Unaltered w tag key) (c .place ∙ sym (append-assoc (c .before) (lent check (c .bytes) ∷ []) (c .later))) u)
@@ -50,4 +50,4 @@ unused-may-change w one tag key run c m n done same u before later x place d l a
     ]
   where
     Left : List Lent → Lent → Type 0
-    Left before x = Moves w tag key before x → (l : Latest (Moves w tag key) before) → used (stateAfter w tag key before .marks) a ≡ true → entryAt w (x .bytes) a ≡ entryAt w (result w tag key (l .before) (l .call) .seen .store) a
+    Left before x = Touches w tag key before x → (l : Latest (Touches w tag key) before) → used (stateAfter w tag key before .marks) a ≡ true → entryAt w (x .bytes) a ≡ entryAt w (result w tag key (l .before) (l .call) .seen .store) a

@@ -9,7 +9,7 @@ use native.Mathlib.Omega.{arith}
 use Rattle.state.specs.Sizes.{addresses, ceiling}
 use Rattle.state.specs.Cells.{Entry}
 use Rattle.state.specs.Multiset.{message, Fits}
-use Rattle.state.specs.Step.{Event, took, put, accepted}
+use Rattle.state.specs.TakePut.{Event, took, put, accepted}
 use Rattle.state.specs.declared.Seal.{Seal}
 use Rattle.state.proofs.Messages.{message-injective}
 use Rattle.bag.specs.Bag.{Bag, empty, noted, follow}

@@ -7,7 +7,7 @@ use Prim.Native.Nat.{ℕ}
 use Rattle.state.specs.Cells.{Entry}
 use Rattle.state.specs.Multiset.{hash}
 use Rattle.state.specs.Start.{sealed}
-use Rattle.state.specs.Step.{Event, put, accepted, Step}
+use Rattle.state.specs.TakePut.{Event, put, accepted, Outcome}
 use Rattle.state.specs.Check.{reput, takes, puts, acceptance}
 use Rattle.state.specs.declared.Seal.{Seal}
 use Rattle.state.specs.declared.State.{State}
@@ -73,5 +73,5 @@ module _ (w : ℕ) (tag : Seal → Entry → List ℕ) (key : List ℕ) where
 
       all : eventsOf w tag key run ≡ past ++ (accepted ∷ puts w s m)
       all =
-          ap (eventsOf w tag key) place ∙ events-last w tag key before (lent check m) ∙ ap (λ (r : Step). eventsOf w tag key before ++ r .events) (accepts-gives w tag s m a)
+          ap (eventsOf w tag key) place ∙ events-last w tag key before (lent check m) ∙ ap (λ (r : Outcome). eventsOf w tag key before ++ r .events) (accepts-gives w tag s m a)
           ∙ sym (append-assoc (eventsOf w tag key before) (takes w s m) (accepted ∷ puts w s m))

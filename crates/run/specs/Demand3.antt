@@ -23,12 +23,12 @@ use Rattle.state.specs.Cells.{Entry, entryAt}
 use Rattle.state.specs.Multiset.{hash}
 use Rattle.state.specs.Counts.{times}
 use Rattle.state.specs.Start.{sealed, startOf}
-use Rattle.state.specs.Step.{Event, took, put, accepted, Step}
+use Rattle.state.specs.TakePut.{Event, took, put, accepted, Outcome}
 use Rattle.state.specs.Check.{takes}
 use Rattle.state.specs.declared.Seal.{Seal}
 use Rattle.state.specs.declared.State.{State}
 use Rattle.state.specs.declared.Verdict.the-variants.{Accept}
-use Rattle.run.specs.Calls.{Call, add, load, store, check, Lent, lent, moves, step, after, events}
+use Rattle.run.specs.Calls.{Call, add, load, store, check, Lent, lent, touches, outcomeOf, after, events}
 
 -- ---- multisets, by counts
 
@@ -83,8 +83,8 @@ module _ (w : ℕ) (tag : Seal → Entry → List ℕ) (key : List ℕ) where
   abbrev pub stateAfter : List Lent → State
   stateAfter run = after w tag (startOf key .state) run
 
-  abbrev pub result : List Lent → Lent → Step
-  result before x = step w tag (stateAfter before) (x .bytes) (x .call)
+  abbrev pub result : List Lent → Lent → Outcome
+  result before x = outcomeOf w tag (stateAfter before) (x .bytes) (x .call)
 
   abbrev pub eventsOf : List Lent → List Event
   eventsOf run = events w tag (startOf key .state) run
@@ -133,13 +133,13 @@ module _ (w : ℕ) (tag : Seal → Entry → List ℕ) (key : List ℕ) where
   -- ---- second half
 
   -- a call that is not refused, and no look, count or lowest free
-  abbrev pub Moves : List Lent → Lent → Type 0
-  Moves before x = Done before x × (moves (x .call) ≡ true)
+  abbrev pub Touches : List Lent → Lent → Type 0
+  Touches before x = Done before x × (touches (x .call) ≡ true)
 
   -- each cell in use reaches each such call as the latest such call before it left it; all other bytes may be any
   abbrev pub Unaltered : List Lent → Type 0
   Unaltered run =
-      (before later : List Lent) (x : Lent) → run ≡ before ++ (x ∷ later) → Moves before x → (l : Latest Moves before)
+      (before later : List Lent) (x : Lent) → run ≡ before ++ (x ∷ later) → Touches before x → (l : Latest Touches before)
       → (a : ℕ) → used (stateAfter before .marks) a ≡ true → entryAt w (x .bytes) a ≡ entryAt w (result (l .before) (l .call) .seen .store) a
 
   abbrev pub EachCheck : List Lent → Type 0

@@ -17,7 +17,7 @@ use Prim.Native.Nat.{ℕ, _<_}
 use Rattle.state.specs.Cells.{Entry}
 use Rattle.state.specs.Multiset.{hash}
 use Rattle.state.specs.Start.{sealed}
-use Rattle.state.specs.Step.{Event, took, put, accepted}
+use Rattle.state.specs.TakePut.{Event, took, put, accepted}
 use Rattle.state.specs.Check.{takes}
 use Rattle.state.specs.declared.Seal.{Seal}
 use Rattle.state.specs.declared.State.{State}

@@ -16,8 +16,8 @@ use Rattle.state.specs.Sizes.{addresses, valueSize, cellSize, storeSize}
 use Rattle.state.specs.Marks.{used, inUse}
 use Rattle.state.specs.Cells.{Entry, entry, valueAt, stampAt, entryAt, writeCell, writeEntry}
 use Rattle.state.specs.Multiset.{emptyHash, withTag}
-use Rattle.state.specs.Step.{Seen, seen, Step, step, withMarks, shut, next, takeEntry, putEntry}
-use Rattle.state.specs.Moves.{addRows, useRows, removeRows, call, added, loaded, stored, removed, addOf, loadOf, storeOf, removeOf}
+use Rattle.state.specs.TakePut.{Seen, seen, Outcome, outcome, withMarks, shut, next, takeEntry, putEntry}
+use Rattle.state.specs.Access.{addRows, exchangeRows, removeRows, call, added, loaded, stored, removed, addOf, loadOf, storeOf, removeOf}
 use Rattle.state.specs.Check.{checkRows, taken, opening, reput, opened, agrees, takeAll, putAll, acceptance, rejection, checkOf}
 use Rattle.state.specs.Calls.{calls}
 use Rattle.state.specs.Table.{Marked, zeroHash}
@@ -42,22 +42,22 @@ bytes-zero (suc w) = ap₂ _∷_ (ap (λ (n : ℕ). n % 2 ^ 8) (zero-div (2 ^ to
 -- ---- a call that is done
 
 -- its rows do not hold, and it is what it is where none does
-pub done-is : (rows : List Row) (s : State) (m o : List ℕ) (x : Step) → call rows s m o x .seen .number ≡ 0 → (first rows ≡ 0) × (call rows s m o x ≡ x)
+pub done-is : (rows : List Row) (s : State) (m o : List ℕ) (x : Outcome) → call rows s m o x .seen .number ≡ 0 → (first rows ≡ 0) × (call rows s m o x ≡ x)
 done-is rows s m o x e = go (first rows) refl
   where
     go : (n : ℕ) → first rows ≡ n → (first rows ≡ 0) × (call rows s m o x ≡ x)
     go zero q = (q, call-done rows s m o x q)
     go (suc n) q =
         let r = call-refused rows s m o x (λ z. let y : suc n ≡ 0 = sym q ∙ z in absurd (omega arith)) in
-        let y : suc n ≡ 0 = sym q ∙ sym (ap (λ (r : Step). r .seen .number) r) ∙ e in
+        let y : suc n ≡ 0 = sym q ∙ sym (ap (λ (r : Outcome). r .seen .number) r) ∙ e in
         absurd (omega arith)
 
 -- the marks are as they were, also where it is refused
-marks-kept : (rows : List Row) (s : State) (m o : List ℕ) (x : Step) → x .seen .state .marks ≡ s .marks → call rows s m o x .seen .state .marks ≡ s .marks
+marks-kept : (rows : List Row) (s : State) (m o : List ℕ) (x : Outcome) → x .seen .state .marks ≡ s .marks → call rows s m o x .seen .state .marks ≡ s .marks
 unfolding call
 marks-kept rows s m o x e = go (first rows)
   where
-    go : (n : ℕ) → done n x (step (seen n Nothing s m o) []) .seen .state .marks ≡ s .marks
+    go : (n : ℕ) → done n x (outcome (seen n Nothing s m o) []) .seen .state .marks ≡ s .marks
     go zero = e
     go (suc n) = refl
 
@@ -102,14 +102,14 @@ module _ (w : ℕ) (tag : Seal → Entry → List ℕ) where
     add-effect : (v : List ℕ) → addOf w tag s m a v .seen .number ≡ 0 → Add v (addOf w tag s m a v .seen)
     unfolding addOf added next writeEntry writeCell cellSize valueSize
     add-effect v e =
-        subst (λ (r : Step). Add v (r .seen)) (sym (done-is (addRows w s m a v) s m [] _ e .1))
+        subst (λ (r : Outcome). Add v (r .seen)) (sym (done-is (addRows w s m a v) s m [] _ e .1))
         (other-marks s _ [] _ _ _ (put-after s s [] (entry a v (s .clock + 1)) y (taken-each tag [] s)), refl)
 
     add-marks : (v : List ℕ) → addOf w tag s m a v .seen .number ≡ 0 → (b : ℕ) → Marked (addOf w tag s m a v .seen .state) b ↔ ((b ≡ a) ⊎ Marked s b)
     unfolding addOf added withMarks
     add-marks v e =
         let d = done-is (addRows w s m a v) s m [] (added w tag s m a v) e in
-        set-mark s (addOf w tag s m a v .seen .state) a (y .words) (add-ready w s m a v (d .0) .0 .below) (ap (λ (r : Step). r .seen .state .marks) (d .1))
+        set-mark s (addOf w tag s m a v .seen .state) a (y .words) (add-ready w s m a v (d .0) .0 .below) (ap (λ (r : Outcome). r .seen .state .marks) (d .1))
 
     -- load and store: v is the value put, and o what is handed out
     abbrev Exchange : List ℕ → List ℕ → Seen → Type 0
@@ -120,13 +120,13 @@ module _ (w : ℕ) (tag : Seal → Entry → List ℕ) where
     load-effect : (o : List ℕ) → loadOf w tag s m a o .seen .number ≡ 0 → Exchange (valueIn w m a) (valueIn w m a) (loadOf w tag s m a o .seen)
     unfolding loadOf loaded next takeEntry entryAt valueAt stampAt writeEntry writeCell cellSize valueSize
     load-effect o e =
-        subst (λ (r : Step). Exchange (valueIn w m a) (valueIn w m a) (r .seen)) (sym (done-is (useRows w s m a o) s m o _ e .1))
+        subst (λ (r : Outcome). Exchange (valueIn w m a) (valueIn w m a) (r .seen)) (sym (done-is (exchangeRows w s m a o) s m o _ e .1))
         (put-after s _ (entryIn w m a ∷ []) (entry a (valueIn w m a) (s .clock + 1)) y (taken-each tag (entryIn w m a ∷ []) s), refl, refl)
 
     store-effect : (v : List ℕ) → storeOf w tag s m a v .seen .number ≡ 0 → Exchange v [] (storeOf w tag s m a v .seen)
     unfolding storeOf stored next takeEntry entryAt valueAt stampAt writeEntry writeCell cellSize valueSize
     store-effect v e =
-        subst (λ (r : Step). Exchange v [] (r .seen)) (sym (done-is (useRows w s m a v) s m [] _ e .1))
+        subst (λ (r : Outcome). Exchange v [] (r .seen)) (sym (done-is (exchangeRows w s m a v) s m [] _ e .1))
         (put-after s _ (entryIn w m a ∷ []) (entry a v (s .clock + 1)) y (taken-each tag (entryIn w m a ∷ []) s), refl, refl)
 
     abbrev Remove : Seen → Type 0
@@ -135,7 +135,7 @@ module _ (w : ℕ) (tag : Seal → Entry → List ℕ) where
     remove-effect : removeOf w tag s m a .seen .number ≡ 0 → Remove (removeOf w tag s m a .seen)
     unfolding removeOf removed entryAt valueAt stampAt writeCell cellSize valueSize
     remove-effect e =
-        subst (λ (r : Step). Remove (r .seen)) (sym (done-is (removeRows w s m a) s m [] _ e .1)) (
+        subst (λ (r : Outcome). Remove (r .seen)) (sym (done-is (removeRows w s m a) s m [] _ e .1)) (
           other-marks s _ (entryIn w m a ∷ []) [] _ _ (take-after s _ (entryIn w m a ∷ []) y (taken-each tag (entryIn w m a ∷ []) s)),
           ap (withCell w m a) (ap (λ (z : List ℕ). replicate 28 0 ++ z) (bytes-zero w) ∙ replicate-append-replicate 28 w 0),
         )
@@ -144,7 +144,7 @@ module _ (w : ℕ) (tag : Seal → Entry → List ℕ) where
     unfolding removeOf removed withMarks
     remove-marks e =
         let d = done-is (removeRows w s m a) s m [] (removed w tag s m a) e in
-        clear-mark s (removeOf w tag s m a .seen .state) a (y .words) (remove-ready w s m a (d .0) .below) (ap (λ (r : Step). r .seen .state .marks) (d .1))
+        clear-mark s (removeOf w tag s m a .seen .state) a (y .words) (remove-ready w s m a (d .0) .below) (ap (λ (r : Outcome). r .seen .state .marks) (d .1))
 
   -- ---- check
 
@@ -256,7 +256,7 @@ module _ (w : ℕ) (tag : Seal → Entry → List ℕ) where
 
     check-effect : checkOf w tag s m .seen .number ≡ 0 → Checked (checkOf w tag s m .seen)
     unfolding checkOf acceptance rejection
-    check-effect e = subst (λ (r : Step). Checked (r .seen)) (sym (d .1)) (go (agrees (takeAll w tag s m)) refl)
+    check-effect e = subst (λ (r : Outcome). Checked (r .seen)) (sym (d .1)) (go (agrees (takeAll w tag s m)) refl)
       where
         d : (first (checkRows w s m) ≡ 0) × (checkOf w tag s m ≡ cond (agrees (takeAll w tag s m)) (acceptance w tag s m) (rejection w tag s m))
         d = done-is (checkRows w s m) s m [] _ e
@@ -274,8 +274,8 @@ module _ (w : ℕ) (tag : Seal → Entry → List ℕ) where
     store = λ s m a v y e. let r = store-effect s m a y v e in (r .0, r .1);
     remove = λ s m a y e. remove-effect s m a y e;
     remove-marks = λ s m a y e. remove-marks s m a y e;
-    load-marks = λ s m a o. marks-kept (useRows w s m a o) s m o (loaded w tag s m a) refl;
-    store-marks = λ s m a v. marks-kept (useRows w s m a v) s m [] (stored w tag s m a v) refl;
+    load-marks = λ s m a o. marks-kept (exchangeRows w s m a o) s m o (loaded w tag s m a) refl;
+    store-marks = λ s m a v. marks-kept (exchangeRows w s m a v) s m [] (stored w tag s m a v) refl;
     check = λ s m y e. check-effect s m y e;
     in-use = λ s y. (
       in-use-rising (s .marks) 1024,

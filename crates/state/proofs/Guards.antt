@@ -12,8 +12,8 @@ use Rattle.state.specs.Sizes.{addresses}
 use Rattle.state.specs.Marks.{used}
 use Rattle.state.specs.Cells.{Entry}
 use Rattle.state.specs.Multiset.{emptyHash, sameHash}
-use Rattle.state.specs.Step.{seen, step, takeEntry, putEntry}
-use Rattle.state.specs.Moves.{call}
+use Rattle.state.specs.TakePut.{seen, outcome, takeEntry, putEntry}
+use Rattle.state.specs.Access.{call}
 use Rattle.state.specs.Check.{checkRows, opening, opened, agrees, takeAll, putEach, putAll, acceptance, rejection, checkOf}
 use Rattle.state.specs.declared.Seal.{Seal}
 use Rattle.state.specs.declared.State.{State}
@@ -53,7 +53,7 @@ module _ (w : ℕ) (tag : Seal → Entry → List ℕ) (s : State) (m : List ℕ
   pub accepts-tells : first (checkRows w s m) ≡ 0 → checkOf w tag s m .seen .verdict ≡ Accept
       → (takeAll w tag s m .put ≡ takeAll w tag s m .take) × (takeAll w tag s m .fault ≡ false)
   unfolding checkOf call acceptance rejection
-  accepts-tells e v = go (agrees t) refl (sym (ap (λ (n : ℕ). done n (cond (agrees t) (acceptance w tag s m) (rejection w tag s m)) (step (seen n Nothing s m []) []) .seen .verdict) e) ∙ v)
+  accepts-tells e v = go (agrees t) refl (sym (ap (λ (n : ℕ). done n (cond (agrees t) (acceptance w tag s m) (rejection w tag s m)) (outcome (seen n Nothing s m []) []) .seen .verdict) e) ∙ v)
     where
       t : State
       t = takeAll w tag s m

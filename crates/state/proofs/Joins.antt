@@ -11,7 +11,7 @@ use lib.Seq.{append-snoc}
 use Rattle.octets.specs.Places.{xor}
 use Rattle.state.specs.Cells.{Entry}
 use Rattle.state.specs.Multiset.{hash, emptyHash, withTag}
-use Rattle.state.specs.Step.{takeEntry, putEntry}
+use Rattle.state.specs.TakePut.{takeEntry, putEntry}
 use Rattle.state.specs.Table.{zeroHash}
 use Rattle.state.specs.Effects.{Ahead}
 use Rattle.state.specs.declared.Hash.{Hash}

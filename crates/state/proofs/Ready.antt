@@ -12,20 +12,20 @@ use Rattle.refusal.proofs.Passed.{NoneHolds, done-zero, done-other, numbered, n
 use Rattle.state.specs.Sizes.{addresses, valueSize, cellSize, storeSize, ceiling}
 use Rattle.state.specs.Marks.{used}
 use Rattle.state.specs.Cells.{valueAt}
-use Rattle.state.specs.Step.{seen, Step, step}
-use Rattle.state.specs.Moves.{shutRow, storeRow, addressRow, bufferRow, clockRow, addRows, useRows, removeRows, lookRows, call, lookOf, lookFrom}
+use Rattle.state.specs.TakePut.{seen, Outcome, outcome}
+use Rattle.state.specs.Access.{closedRow, storeRow, addressRow, bufferRow, clockRow, addRows, exchangeRows, removeRows, lookRows, call, lookOf, lookFrom}
 use Rattle.state.specs.Check.{checkRows}
 use Rattle.state.specs.declared.State.{State}
 use Rattle.state.specs.declared.Verdict.the-variants.{Nothing}
 
-pub call-done : (rows : List Row) (s : State) (m o : List ℕ) (x : Step) → first rows ≡ 0 → call rows s m o x ≡ x
+pub call-done : (rows : List Row) (s : State) (m o : List ℕ) (x : Outcome) → first rows ≡ 0 → call rows s m o x ≡ x
 unfolding call
-call-done rows s m o x e = done-zero (first rows) x (step (seen (first rows) Nothing s m o) []) e
+call-done rows s m o x e = done-zero (first rows) x (outcome (seen (first rows) Nothing s m o) []) e
 
-pub call-refused : (rows : List Row) (s : State) (m o : List ℕ) (x : Step) → (first rows ≡ 0 → ⊥)
-    → call rows s m o x ≡ step (seen (first rows) Nothing s m o) []
+pub call-refused : (rows : List Row) (s : State) (m o : List ℕ) (x : Outcome) → (first rows ≡ 0 → ⊥)
+    → call rows s m o x ≡ outcome (seen (first rows) Nothing s m o) []
 unfolding call
-call-refused rows s m o x h = done-other (first rows) x (step (seen (first rows) Nothing s m o) []) h
+call-refused rows s m o x h = done-other (first rows) x (outcome (seen (first rows) Nothing s m o) []) h
 
 -- what a call on an address may rely on, the mark of the address being u; and what one that puts may
 pub record Ready (w : ℕ) (s : State) (m : List ℕ) (a : ℕ) (u : Bool) : Type 0 where
@@ -64,7 +64,7 @@ module _ (w : ℕ) (s : State) (m : List ℕ) where
 
     -- add's rows, and load's and store's, are these with t as the test of the mark
     abbrev putRows : List ℕ → ℕ → Bool → List Row
-    putRows b n t = shutRow s ∷ storeRow w m ∷ addressRow a ∷ bufferRow b ∷ when n t ∷ clockRow w s ∷ []
+    putRows b n t = closedRow s ∷ storeRow w m ∷ addressRow a ∷ bufferRow b ∷ when n t ∷ clockRow w s ∷ []
 
     put-ready : (b : List ℕ) (t u : Bool) (n : ℕ) → T (numbered (putRows b n t)) → (t ≡ false → used (s .marks) a ≡ u) → first (putRows b n t) ≡ 0
         → Ready w s m a u × Timed w s b
@@ -79,6 +79,6 @@ module _ (w : ℕ) (s : State) (m : List ℕ) where
     unfolding addRows
     add-ready v = put-ready v (used (s .marks) a) false 4 tt (λ h. h)
 
-    pub use-ready : (b : List ℕ) → first (useRows w s m a b) ≡ 0 → Ready w s m a true × Timed w s b
-    unfolding useRows
-    use-ready b = put-ready b (not (used (s .marks) a)) true 5 tt (not-false (used (s .marks) a))
+    pub exchange-ready : (b : List ℕ) → first (exchangeRows w s m a b) ≡ 0 → Ready w s m a true × Timed w s b
+    unfolding exchangeRows
+    exchange-ready b = put-ready b (not (used (s .marks) a)) true 5 tt (not-false (used (s .marks) a))

@@ -16,9 +16,9 @@ use Rattle.state.specs.Sizes.{keySize, words, addresses, valueSize, cell
 use Rattle.state.specs.Marks.{used}
 use Rattle.state.specs.Cells.{Entry, valueAt}
 use Rattle.state.specs.Multiset.{emptyHash}
-use Rattle.state.specs.Start.{sealed, fresh, none, startRows, startOf}
-use Rattle.state.specs.Step.{seen, Step}
-use Rattle.state.specs.Moves.{addressRow, absentRow, addRows, useRows, removeRows, lookRows, call, added, loaded, stored, removed, addOf, loadOf, storeOf, removeOf}
+use Rattle.state.specs.Start.{sealed, fresh, noState, startRows, startOf}
+use Rattle.state.specs.TakePut.{seen, Outcome}
+use Rattle.state.specs.Access.{addressRow, unusedRow, addRows, exchangeRows, removeRows, lookRows, call, added, loaded, stored, removed, addOf, loadOf, storeOf, removeOf}
 use Rattle.state.specs.Check.{checkRows, agrees, takeAll, acceptance, rejection, checkOf}
 use Rattle.state.specs.Calls.{calls}
 use Rattle.state.specs.Table.{Marked, Answers, Table}
@@ -38,28 +38,28 @@ above a = record {
   no = λ e h. let k = ltb-true a 1024 (not-false (ltb a 1024) e) in omega arith;
 }
 
-absent : (s : State) (a : ℕ) → Tests (absentRow s a) (given 5 (¬ Marked s a))
+absent : (s : State) (a : ℕ) → Tests (unusedRow s a) (given 5 (¬ Marked s a))
 unfolding used
 absent s a = let t = differ 5 ((getD (s .marks) (a / 64) 0 / 2 ^ (a % 64)) % 2) 1 in record { number = refl; yes = t .yes; no = t .no }
 
 -- ---- a call
 
-module _ (rows : List Row) (cases : List Case) (s : State) (m o : List ℕ) (x : Step) where
+module _ (rows : List Row) (cases : List Case) (s : State) (m o : List ℕ) (x : Outcome) where
   answers : TestsAll rows cases → x .seen .number ≡ 0 → Answers cases (call rows s m o x .seen) s m o
   answers t z = record { number = rw (same (first rows) refl) (first-of rows cases t); unchanged = unchanged (first rows) refl }
     where
       same : (n : ℕ) → first rows ≡ n → call rows s m o x .seen .number ≡ first rows
       same zero e = rw (call-done rows s m o x e) (z ∙ sym e)
-      same (suc n) e = ap (λ (r : Step). r .seen .number) (call-refused rows s m o x (λ q. let y : suc n ≡ 0 = sym e ∙ q in absurd (omega arith)))
+      same (suc n) e = ap (λ (r : Outcome). r .seen .number) (call-refused rows s m o x (λ q. let y : suc n ≡ 0 = sym e ∙ q in absurd (omega arith)))
 
       unchanged : (n : ℕ) → first rows ≡ n → call rows s m o x .seen .number ≢ 0
           → (call rows s m o x .seen .state ≡ s) × (call rows s m o x .seen .store ≡ m) × (call rows s m o x .seen .out ≡ o) × (call rows s m o x .seen .verdict ≡ Nothing)
       unchanged zero e h = absurd (h (same zero e ∙ e))
       unchanged (suc n) e h =
           let r = call-refused rows s m o x (λ q. let y : suc n ≡ 0 = sym e ∙ q in absurd (omega arith)) in
-          (ap (λ (r : Step). r .seen .state) r, ap (λ (r : Step). r .seen .store) r, ap (λ (r : Step). r .seen .out) r, ap (λ (r : Step). r .seen .verdict) r)
+          (ap (λ (r : Outcome). r .seen .state) r, ap (λ (r : Outcome). r .seen .store) r, ap (λ (r : Outcome). r .seen .out) r, ap (λ (r : Outcome). r .seen .verdict) r)
 
-either-zero : (b : Bool) (x y : Step) → x .seen .number ≡ 0 → y .seen .number ≡ 0 → cond b x y .seen .number ≡ 0
+either-zero : (b : Bool) (x y : Outcome) → x .seen .number ≡ 0 → y .seen .number ≡ 0 → cond b x y .seen .number ≡ 0
 either-zero true x y p q = p
 either-zero false x y p q = q
 
@@ -74,7 +74,7 @@ module _ (w : ℕ) (tag : Seal → Entry → List ℕ) where
   unfolding checkOf acceptance rejection
   check-says s m h = go (first (checkRows w s m)) refl
     where
-      x : Step
+      x : Outcome
       x = cond (agrees (takeAll w tag s m)) (acceptance w tag s m) (rejection w tag s m)
 
       said : (b : Bool) → (cond b (acceptance w tag s m) (rejection w tag s m) .seen .verdict ≡ Accept) ⊎ (cond b (acceptance w tag s m) (rejection w tag s m) .seen .verdict ≡ Reject)
@@ -85,7 +85,7 @@ module _ (w : ℕ) (tag : Seal → Entry → List ℕ) where
       go zero e = rw (call-done (checkRows w s m) s m [] x e) (said (agrees (takeAll w tag s m)))
       go (suc n) e =
           let r = call-refused (checkRows w s m) s m [] x (λ q. let y : suc n ≡ 0 = sym e ∙ q in absurd (omega arith)) in
-          let y : suc n ≡ 0 = sym e ∙ sym (ap (λ (r : Step). r .seen .number) r) ∙ h in
+          let y : suc n ≡ 0 = sym e ∙ sym (ap (λ (r : Outcome). r .seen .number) r) ∙ h in
           absurd (omega arith)
 
   pub look-first : (m : List ℕ) (a : ℕ) → length m ≡ storeSize w → a < addresses → first (lookRows w m a) ≡ 0
@@ -111,21 +111,21 @@ module _ (w : ℕ) (tag : Seal → Entry → List ℕ) where
   remove-tests s m a = (flag 7 (s .closed), (differ 1 (length m) (storeSize w), (above a, (absent s a, tt))))
 
   -- load's and store's
-  use-tests : (s : State) (m : List ℕ) (a : ℕ) (b : List ℕ) → TestsAll (useRows w s m a b)
+  exchange-tests : (s : State) (m : List ℕ) (a : ℕ) (b : List ℕ) → TestsAll (exchangeRows w s m a b)
       (given 7 (s .closed ≡ true) ∷ given 1 (length m ≢ storeSize w) ∷ given 2 (1023 < a) ∷ given 3 (length b ≢ valueSize) ∷ given 5 (¬ Marked s a) ∷ given 6 (s .clock ≡ ceiling w) ∷ [])
-  unfolding useRows
-  use-tests s m a b =
+  unfolding exchangeRows
+  exchange-tests s m a b =
       (flag 7 (s .closed), (differ 1 (length m) (storeSize w), (above a, (differ 3 (length b) valueSize, (absent s a, (equal 6 (s .clock) (ceiling w), tt))))))
 
   pub table : Table (28 + w) ((28 + w) * 1024) (256 ^ w - 1) (calls w tag)
-  unfolding addresses valueSize cellSize storeSize ceiling keySize words emptyHash sealed fresh none startOf added loaded stored removed addOf loadOf storeOf removeOf valueAt
+  unfolding addresses valueSize cellSize storeSize ceiling keySize words emptyHash sealed fresh noState startOf added loaded stored removed addOf loadOf storeOf removeOf valueAt
   table = record {
     start = λ k. first-of (startRows k) (given 8 (length k ≢ keySize) ∷ []) (start-tests k);
-    start-state = λ k e. done-zero (first (startRows k)) (fresh (sealed k) false) none e;
-    start-refused = λ k h. done-other (first (startRows k)) (fresh (sealed k) false) none h;
+    start-state = λ k e. done-zero (first (startRows k)) (fresh (sealed k) false) noState e;
+    start-refused = λ k h. done-other (first (startRows k)) (fresh (sealed k) false) noState h;
     add = λ s m a v. answers (addRows w s m a v) _ s m [] (added w tag s m a v) (add-tests s m a v) refl;
-    load = λ s m a o. answers (useRows w s m a o) _ s m o (loaded w tag s m a) (use-tests s m a o) refl;
-    store = λ s m a v. answers (useRows w s m a v) _ s m [] (stored w tag s m a v) (use-tests s m a v) refl;
+    load = λ s m a o. answers (exchangeRows w s m a o) _ s m o (loaded w tag s m a) (exchange-tests s m a o) refl;
+    store = λ s m a v. answers (exchangeRows w s m a v) _ s m [] (stored w tag s m a v) (exchange-tests s m a v) refl;
     remove = λ s m a. answers (removeRows w s m a) _ s m [] (removed w tag s m a) (remove-tests s m a) refl;
     check = check-answers;
     check-says = check-says;

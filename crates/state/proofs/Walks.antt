@@ -8,7 +8,7 @@ use lib.ListN.{length}
 use Rattle.state.specs.Sizes.{addresses, storeSize}
 use Rattle.state.specs.Marks.{used, usedBelow, inUse}
 use Rattle.state.specs.Cells.{Entry, valueAt, entryAt, writeEntry}
-use Rattle.state.specs.Step.{took, put, takeEntry, putEntry}
+use Rattle.state.specs.TakePut.{took, put, takeEntry, putEntry}
 use Rattle.state.specs.Check.{taken, opening, reput, takes, puts, writeEach, writeAll, takeEach, takeAll, putEach}
 use Rattle.state.specs.declared.Seal.{Seal}
 use Rattle.state.specs.declared.State.{State}

@@ -5,8 +5,8 @@ use Prim.Native.Nat.{ℕ}
 use Rattle.state.specs.Marks.{countOf}
 use Rattle.state.specs.Cells.{Entry}
 use Rattle.state.specs.Start.{startOf}
-use Rattle.state.specs.Step.{Seen}
-use Rattle.state.specs.Moves.{addOf, loadOf, storeOf, removeOf, lookOf, lookFrom, lowestOf}
+use Rattle.state.specs.TakePut.{Seen}
+use Rattle.state.specs.Access.{addOf, loadOf, storeOf, removeOf, lookOf, lookFrom, lowestOf}
 use Rattle.state.specs.Check.{checkOf}
 use Rattle.state.specs.declared.Seal.{Seal}
 use Rattle.state.specs.declared.State.{State}

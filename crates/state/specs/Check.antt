@@ -8,8 +8,8 @@ use Rattle.refusal.specs.Refusal.{Row}
 use Rattle.state.specs.Marks.{inUse}
 use Rattle.state.specs.Cells.{Entry, entry, valueAt, entryAt, writeEntry}
 use Rattle.state.specs.Multiset.{emptyHash, sameHash}
-use Rattle.state.specs.Step.{Event, took, put, accepted, seen, Step, step, shut, takeEntry, putEntry}
-use Rattle.state.specs.Moves.{shutRow, storeRow, call}
+use Rattle.state.specs.TakePut.{Event, took, put, accepted, seen, Outcome, outcome, shut, takeEntry, putEntry}
+use Rattle.state.specs.Access.{closedRow, storeRow, call}
 use Rattle.state.specs.declared.Seal.{Seal}
 use Rattle.state.specs.declared.State.{State}
 use Rattle.state.specs.declared.Verdict.{Verdict}
@@ -28,7 +28,7 @@ verdictAccepts Reject = some false
 verdictAccepts Nothing = none
 
 unfoldable pub checkRows : ℕ → State → List ℕ → List Row
-checkRows w s m = shutRow s ∷ storeRow w m ∷ []
+checkRows w s m = closedRow s ∷ storeRow w m ∷ []
 
 -- what is taken at the marked addresses: each with what its cell holds, lowest first
 unfoldable pub taken : ℕ → List ℕ → List ℕ → List Entry
@@ -83,12 +83,12 @@ module _ (w : ℕ) (tag : Seal → Entry → List ℕ) where
   putAll s m = putEach (s .marks) (opened s) m
 
   -- accepted: between the takes, which end a period, and the puts, which begin the next
-  unfoldable pub acceptance : State → List ℕ → Step
-  acceptance s m = step (seen 0 Accept (putAll s m) (writeAll w s m) []) (takes w s m ++ (accepted ∷ puts w s m))
+  unfoldable pub acceptance : State → List ℕ → Outcome
+  acceptance s m = outcome (seen 0 Accept (putAll s m) (writeAll w s m) []) (takes w s m ++ (accepted ∷ puts w s m))
 
   -- rejected: the state given, closed, and the store as it was
-  unfoldable pub rejection : State → List ℕ → Step
-  rejection s m = step (seen 0 Reject (shut s) m []) (takes w s m)
+  unfoldable pub rejection : State → List ℕ → Outcome
+  rejection s m = outcome (seen 0 Reject (shut s) m []) (takes w s m)
 
-  unfoldable pub checkOf : State → List ℕ → Step
+  unfoldable pub checkOf : State → List ℕ → Outcome
   checkOf s m = call (checkRows w s m) s m [] (cond (agrees (takeAll s m)) (acceptance s m) (rejection s m))

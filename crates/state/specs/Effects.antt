@@ -11,7 +11,7 @@ use Rattle.octets.specs.Layout.{number, bytes}
 use Rattle.octets.specs.Places.{xor}
 use Rattle.state.specs.Marks.{inUse}
 use Rattle.state.specs.Cells.{Entry, entry}
-use Rattle.state.specs.Step.{Seen}
+use Rattle.state.specs.TakePut.{Seen}
 use Rattle.state.specs.Calls.{Calls}
 use Rattle.state.specs.Table.{Marked, zeroHash}
 use Rattle.state.specs.declared.Hash.{Hash}

@@ -4,8 +4,8 @@ pub mod Cells
 pub mod Multiset
 pub mod Counts
 pub mod Start
-pub mod Step
-pub mod Moves
+pub mod TakePut
+pub mod Access
 pub mod Check
 pub mod Calls
 pub mod Table

@@ -22,9 +22,9 @@ unfolding emptyHash words
 fresh x c = record { seal = x; put = emptyHash; take = emptyHash; clock = 0; fault = false; closed = c; marks = replicate words 0 }
 
 -- what a refused start gives: closed, and zeros everywhere else
-unfoldable pub none : State
+unfoldable pub noState : State
 unfolding fresh keySize
-none = fresh (record { key = replicate keySize 0 }) true
+noState = fresh (record { key = replicate keySize 0 }) true
 
 abbrev pub started : ℕ → State → Started
 started n s = record { number = n; state = s }
@@ -33,4 +33,4 @@ abbrev pub startRows : List ℕ → List Row
 startRows k = when 8 (not (eqb (length k) keySize)) ∷ []
 
 unfoldable pub startOf : List ℕ → Started
-startOf k = started (first (startRows k)) (done (first (startRows k)) (fresh (sealed k) false) none)
+startOf k = started (first (startRows k)) (done (first (startRows k)) (fresh (sealed k) false) noState)

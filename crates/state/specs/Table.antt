@@ -8,7 +8,7 @@ use mathlib.Core.Logic.{_⊎_, _≢_}
 use Prim.Native.Nat.{ℕ, _*_, _/_, _%_, _^_, _<_}
 use lib.ListN.{length, getD, take, drop, replicate}
 use Rattle.refusal.specs.Cases.{Case, given, FirstOf}
-use Rattle.state.specs.Step.{Seen}
+use Rattle.state.specs.TakePut.{Seen}
 use Rattle.state.specs.Calls.{Calls}
 use Rattle.state.specs.declared.Hash.{Hash}
 use Rattle.state.specs.declared.State.{State}

@@ -5,8 +5,8 @@ use Prim.Native.Nat.{ℕ, _^_, _<_}
 use native.Mathlib.Omega.{arith}
 use Rattle.refusal.specs.Refusal.{Row, first}
 use Rattle.state.specs.Sizes.{width, ceiling}
-use Rattle.state.specs.Step.{seen, Step}
-use Rattle.state.specs.Moves.{call}
+use Rattle.state.specs.TakePut.{seen, Outcome}
+use Rattle.state.specs.Access.{call}
 use Rattle.state.specs.declared.State.{State}
 use Rattle.state.specs.declared.Verdict.the-variants.{Nothing}
 use Rattle.state.proofs.Ready.{call-done, call-refused}
@@ -16,7 +16,7 @@ pub clock-below : (t : ℕ) → t < 256 ^ width → (t ≡ ceiling width → ⊥
 unfolding ceiling
 clock-below t h n = omega arith
 
-module _ (rows : List Row) (s : State) (m o : List ℕ) (x : Step) where
+module _ (rows : List Row) (s : State) (m o : List ℕ) (x : Outcome) where
   pub done-seen : {n : ℕ} {t : State} {k p : List ℕ} → n ≡ first rows → n ≡ 0 → seen 0 Nothing t k p ≡ x .seen → seen n Nothing t k p ≡ call rows s m o x .seen
   done-seen {t = t} {k = k} {p = p} e z d = ap (λ n. seen n Nothing t k p) z ∙ d ∙ sym (ap (λ y. y .seen) (call-done rows s m o x (sym e ∙ z)))
 

@@ -7,7 +7,7 @@ use Prim.Native.Nat.{ℕ, _≤_, _<_}
 use lib.Dec.{ltb}
 use Rattle.state.specs.Cells.{Entry, entry, valueAt, stampAt, entryAt}
 use Rattle.state.specs.Multiset.{withTag}
-use Rattle.state.specs.Step.{seen, takeEntry, putEntry}
+use Rattle.state.specs.TakePut.{seen, takeEntry, putEntry}
 use Rattle.state.specs.declared.State.{State}
 use Rattle.state.specs.declared.Hash.{Hash}
 use Rattle.state.specs.declared.Seal.{Seal}

@@ -13,7 +13,7 @@ use Rattle.marks.proofs.Sets.{next-is}
 use Rattle.state.specs.Sizes.{addresses, storeSize}
 use Rattle.state.specs.Marks.{used}
 use Rattle.state.specs.Cells.{Entry, entry, valueAt, entryAt, writeEntry}
-use Rattle.state.specs.Step.{takeEntry, putEntry}
+use Rattle.state.specs.TakePut.{takeEntry, putEntry}
 use Rattle.state.specs.Check.{opening}
 use Rattle.state.specs.declared.Seal.{Seal}
 use Rattle.state.specs.declared.State.{State}

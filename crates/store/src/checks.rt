@@ -14,7 +14,7 @@ pub fn take_each(s: State, m: [u64; State::WORDS], store: &[u8]) -> State
     let mut r = s;
     let mut a = marks::next_used(m, 0);
     while a < State::ADDRESSES {
-        r = crate::moves::take(r, store, a);
+        r = crate::access::take(r, store, a);
         a = marks::next_used(m, a + 1);
     }
     r
@@ -30,7 +30,7 @@ pub fn put_each(s: State, m: [u64; State::WORDS], store: &mut [u8]) -> State
     let mut a = marks::next_used(m, 0);
     while a < State::ADDRESSES {
         let v = crate::cells::value_at(store, a);
-        r = crate::moves::put_entry(r, store, a, v, 1);
+        r = crate::access::put_entry(r, store, a, v, 1);
         a = marks::next_used(m, a + 1);
     }
     r

@@ -1,8 +1,8 @@
 // The store: values in bytes that the caller lends and nobody trusts, beside a trusted state that the caller holds.
 // Each call gives its number, 0 where it is done, and the state; a refused one leaves the state and every lent byte as they were.
+mod access;
 mod cells;
 mod checks;
-mod moves;
 
 use state::Checked;
 use state::Free;
@@ -15,8 +15,8 @@ ghost use denote.Ref.{ptr};
 ghost use Rattle.lent.specs.Lent.{place};
 ghost use Rattle.state.specs.Sizes.{width};
 ghost use Rattle.state.specs.Marks.{countOf};
-ghost use Rattle.state.specs.Step.{seen};
-ghost use Rattle.state.specs.Moves.{addOf, loadOf, storeOf, removeOf, lookOf, lookFrom, lowestOf};
+ghost use Rattle.state.specs.TakePut.{seen};
+ghost use Rattle.state.specs.Access.{addOf, loadOf, storeOf, removeOf, lookOf, lookFrom, lowestOf};
 ghost use Rattle.state.specs.Check.{checkOf};
 ghost use Rattle.state.specs.declared.Verdict.the-variants.{Nothing};
 ghost use Rattle.entries.specs.Tag.{tag};
@@ -28,7 +28,7 @@ pub fn add(s: State, store: &mut [u8], a: usize, value: &[u8]) -> Moved
 {
     let number = numbers::add(s, store, a, value);
     if number == 0 {
-        let state = moves::added(s, store, a, value);
+        let state = access::added(s, store, a, value);
         return Moved { number, state };
     }
     Moved { number, state: s }
@@ -39,9 +39,9 @@ pub fn load(s: State, store: &mut [u8], a: usize, out: &mut [u8]) -> Moved
     ensures { λ r. ⌜ seen (r .number) Nothing (r .state) (now (store .exit)) (now (out .exit))
         ≡ loadOf width tag s (now (store .entry)) a (now (out .entry)) .seen ⌝ }
 {
-    let number = numbers::use_of(s, store, a, out);
+    let number = numbers::exchange(s, store, a, out);
     if number == 0 {
-        let state = moves::loaded(s, store, a, out);
+        let state = access::loaded(s, store, a, out);
         return Moved { number, state };
     }
     Moved { number, state: s }
@@ -52,9 +52,9 @@ pub fn store(s: State, store: &mut [u8], a: usize, value: &[u8]) -> Moved
     ensures { λ r. ⌜ seen (r .number) Nothing (r .state) (now (store .exit)) []
         ≡ storeOf width tag s (now (store .entry)) a (now (value .entry)) .seen ⌝ }
 {
-    let number = numbers::use_of(s, store, a, value);
+    let number = numbers::exchange(s, store, a, value);
     if number == 0 {
-        let state = moves::stored(s, store, a, value);
+        let state = access::stored(s, store, a, value);
         return Moved { number, state };
     }
     Moved { number, state: s }
@@ -67,7 +67,7 @@ pub fn remove(s: State, store: &mut [u8], a: usize) -> Moved
 {
     let number = numbers::remove(s, store, a);
     if number == 0 {
-        let state = moves::removed(s, store, a);
+        let state = access::removed(s, store, a);
         return Moved { number, state };
     }
     Moved { number, state: s }

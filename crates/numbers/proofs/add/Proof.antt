@@ -1,7 +1,7 @@
 -- `numbers::add` meets its contract: it takes the rows of the table one after another. Assumes nothing.
 use borrow.Author.Needs.{needs}
 use Rattle.state.specs.Sizes.{width, addresses, valueSize, cellSize, storeSize, ceiling}
-use Rattle.state.specs.Moves.{addRows}
+use Rattle.state.specs.Access.{addRows}
 use Rattle.numbers.proofs.Rows.{rows-first}
 use Rattle.numbers.proofs.add.Statement.{statement}
 use Rattle.numbers.proofs.add.Tie as tie

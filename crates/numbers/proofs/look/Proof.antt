@@ -1,7 +1,7 @@
 -- `numbers::look` meets its contract: it takes the rows of the table one after another. Assumes nothing.
 use borrow.Author.Needs.{needs}
 use Rattle.state.specs.Sizes.{width, addresses, valueSize, cellSize, storeSize}
-use Rattle.state.specs.Moves.{lookRows}
+use Rattle.state.specs.Access.{lookRows}
 use Rattle.numbers.proofs.Rows.{rows-first}
 use Rattle.numbers.proofs.look.Statement.{statement}
 use Rattle.numbers.proofs.look.Tie as tie

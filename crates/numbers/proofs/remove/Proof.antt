@@ -1,7 +1,7 @@
 -- `numbers::remove` meets its contract: it takes the rows of the table one after another. Assumes nothing.
 use borrow.Author.Needs.{needs}
 use Rattle.state.specs.Sizes.{width, addresses, valueSize, cellSize, storeSize}
-use Rattle.state.specs.Moves.{removeRows}
+use Rattle.state.specs.Access.{removeRows}
 use Rattle.numbers.proofs.Rows.{rows-first}
 use Rattle.numbers.proofs.remove.Statement.{statement}
 use Rattle.numbers.proofs.remove.Tie as tie

@@ -1,6 +1,6 @@
 -- `periods::shut` meets its contract: the struct that it makes is the definition's. Assumes nothing.
 use mathlib.Core.Path.{refl}
-use Rattle.state.specs.Step.{shut}
+use Rattle.state.specs.TakePut.{shut}
 use Rattle.periods.proofs.shut.Statement.{statement}
 use Rattle.periods.proofs.shut.Tie as tie
 

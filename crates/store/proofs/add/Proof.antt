@@ -3,7 +3,7 @@ use borrow.Author.Needs.{needs}
 use mathlib.Core.Path.{sym, _∙_}
 use Prim.Native.Nat.{_^_, _<_}
 use Rattle.state.specs.Sizes.{width}
-use Rattle.state.specs.Moves.{addOf}
+use Rattle.state.specs.Access.{addOf}
 use Rattle.state.proofs.Ready.{add-ready}
 use Rattle.store.proofs.Answers.{clock-below, done-seen, refused-seen}
 use Rattle.store.proofs.add.Statement.{statement}

@@ -3,7 +3,7 @@ use borrow.Author.Needs.{needs}
 use mathlib.Core.Path.{_≡_, sym, ap, ap₂, _∙_}
 use mathlib.Core.Bool.{true, false}
 use Rattle.state.specs.Sizes.{width}
-use Rattle.state.specs.Step.{seen}
+use Rattle.state.specs.TakePut.{seen}
 use Rattle.state.specs.Check.{checkOf, agrees, takeEach, takeAll, putEach, putAll, writeAll, acceptance, rejection}
 use Rattle.state.specs.declared.Verdict.the-variants.{Accept, Reject}
 use Rattle.entries.specs.Tag.{tag}

@@ -4,7 +4,7 @@ use borrow.Author.Tests.{eq-eqb, ne-eqb}
 use mathlib.Core.Path.{_≡_, sym, _∙_}
 use Rattle.state.specs.Sizes.{addresses}
 use Rattle.state.specs.Marks.{lowestFree}
-use Rattle.state.specs.Moves.{lowestOf}
+use Rattle.state.specs.Access.{lowestOf}
 use Rattle.store.proofs.lowest_free.Statement.{statement}
 use Rattle.store.proofs.lowest_free.Tie as tie
 

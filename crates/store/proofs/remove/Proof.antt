@@ -2,7 +2,7 @@
 use borrow.Author.Needs.{needs}
 use mathlib.Core.Path.{sym, _∙_}
 use Rattle.state.specs.Sizes.{width}
-use Rattle.state.specs.Moves.{removeOf}
+use Rattle.state.specs.Access.{removeOf}
 use Rattle.state.proofs.Ready.{remove-ready}
 use Rattle.store.proofs.Answers.{done-seen, refused-seen}
 use Rattle.store.proofs.remove.Statement.{statement}

@@ -3,8 +3,8 @@ use borrow.Author.Needs.{needs}
 use mathlib.Core.Path.{sym, _∙_}
 use Prim.Native.Nat.{_^_, _<_}
 use Rattle.state.specs.Sizes.{width}
-use Rattle.state.specs.Moves.{storeOf}
-use Rattle.state.proofs.Ready.{use-ready}
+use Rattle.state.specs.Access.{storeOf}
+use Rattle.state.proofs.Ready.{exchange-ready}
 use Rattle.store.proofs.Answers.{clock-below, done-seen, refused-seen}
 use Rattle.store.proofs.store.Statement.{statement}
 use Rattle.store.proofs.store.Tie as tie
@@ -14,18 +14,18 @@ stored-requires c κs =
     let b = c .before .before in
     let x = b .before .before .before .before .args in
     let f : x .s .clock < 256 ^ width = search needs in
-    let r = use-ready width (x .s) (x .store .now) (x .a) (x .value .now) (sym (b .use-of .ensures) ∙ c .before .if1 .taken) in
+    let r = exchange-ready width (x .s) (x .store .now) (x .a) (x .value .now) (sym (b .exchange .ensures) ∙ c .before .if1 .taken) in
     (r .0 .size, r .0 .below, r .1 .size, clock-below (x .s .clock) f (r .1 .time))
 
 returns : tie.Need-returns
 unfolding storeOf
 returns c =
     let b = c .before .before .before .before in
-    done-seen _ _ _ _ _ (b .before .use-of .ensures) (b .if1 .taken) (c .before .before .stored .ensures)
+    done-seen _ _ _ _ _ (b .before .exchange .ensures) (b .if1 .taken) (c .before .before .stored .ensures)
 
 returns-2 : tie.Need-returns-2
 unfolding storeOf
-returns-2 c = refused-seen _ _ _ _ _ (c .before .use-of .ensures) (c .if1 .left)
+returns-2 c = refused-seen _ _ _ _ _ (c .before .exchange .ensures) (c .if1 .left)
 
 pub store-spec : {M : Type 1} → statement M
 store-spec = tie.close (tie.spec (λ c κs. search needs) stored-requires (λ c. search needs) returns (λ c. search needs) returns-2)

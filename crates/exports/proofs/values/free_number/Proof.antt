@@ -1,6 +1,6 @@
 -- `values::free_number` meets its contract: by its cases. Assumes nothing.
 use borrow.Author.Needs.{needs}
-use Rattle.state.specs.Moves.{freeNumber}
+use Rattle.state.specs.Access.{freeNumber}
 use Rattle.exports.proofs.values.free_number.Statement.{statement}
 use Rattle.exports.proofs.values.free_number.Tie as tie
 

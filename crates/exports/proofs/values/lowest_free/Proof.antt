@@ -1,7 +1,7 @@
 -- `values::lowest_free` meets its contract: the call's own, of the marks that are held. Assumes nothing.
 use borrow.Author.Needs.{needs}
 use mathlib.Core.Path.{ap, _∙_}
-use Rattle.state.specs.Moves.{lowestOf, freeNumber}
+use Rattle.state.specs.Access.{lowestOf, freeNumber}
 use Rattle.state.specs.declared.State.{State}
 use Rattle.exports.specs.Held.{stateOf}
 use Rattle.exports.specs.Answers.{freeOr}

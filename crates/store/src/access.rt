@@ -6,8 +6,8 @@ ghost use Prim.Native.Nat.{_<_};
 ghost use lib.ListN.{length};
 ghost use Rattle.state.specs.Sizes.{width, addresses, valueSize, storeSize, ceiling};
 ghost use Rattle.state.specs.Cells.{entry, entryAt, writeEntry};
-ghost use Rattle.state.specs.Step.{seen, next, takeEntry, putEntry};
-ghost use Rattle.state.specs.Moves.{added, loaded, stored, removed};
+ghost use Rattle.state.specs.TakePut.{seen, next, takeEntry, putEntry};
+ghost use Rattle.state.specs.Access.{added, loaded, stored, removed};
 ghost use Rattle.state.specs.declared.Verdict.the-variants.{Nothing};
 ghost use Rattle.entries.specs.Tag.{tag};
 

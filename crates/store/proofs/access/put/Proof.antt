@@ -1,9 +1,9 @@
--- `store::moves::put` meets its contract: the stamp is the clock, raised by 1. Assumes nothing.
+-- `store::access::put` meets its contract: the stamp is the clock, raised by 1. Assumes nothing.
 use borrow.Author.Needs.{needs}
 use Rattle.state.specs.Sizes.{ceiling}
-use Rattle.state.specs.Step.{next}
-use Rattle.store.proofs.moves.put.Statement.{statement}
-use Rattle.store.proofs.moves.put.Tie as tie
+use Rattle.state.specs.TakePut.{next}
+use Rattle.store.proofs.access.put.Statement.{statement}
+use Rattle.store.proofs.access.put.Tie as tie
 
 returns : tie.Need-returns
 unfolding next

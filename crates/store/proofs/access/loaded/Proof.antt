@@ -1,16 +1,16 @@
--- `store::moves::loaded` meets its contract: a take, a put of the value taken, and a copy of it. Assumes nothing.
+-- `store::access::loaded` meets its contract: a take, a put of the value taken, and a copy of it. Assumes nothing.
 use borrow.Author.Needs.{needs}
 use mathlib.Core.Path.{_≡_, sym, ap₂, _∙_}
 use lib.ListN.{length}
 use Rattle.lent.proofs.Copied.{copied-all}
 use Rattle.state.specs.Sizes.{valueSize, width}
 use Rattle.state.specs.Cells.{writeEntry}
-use Rattle.state.specs.Step.{next, putEntry}
-use Rattle.state.specs.Moves.{loaded}
+use Rattle.state.specs.TakePut.{next, putEntry}
+use Rattle.state.specs.Access.{loaded}
 use Rattle.entries.specs.Tag.{tag}
 use Rattle.store.proofs.Fields.{take-clock, same-seen}
-use Rattle.store.proofs.moves.loaded.Statement.{statement}
-use Rattle.store.proofs.moves.loaded.Tie as tie
+use Rattle.store.proofs.access.loaded.Statement.{statement}
+use Rattle.store.proofs.access.loaded.Tie as tie
 
 put-requires : tie.Need-put-requires
 put-requires c κs =

@@ -27,12 +27,12 @@ pub record Seen : Type 0 where
 abbrev pub seen : ℕ → Verdict → State → List ℕ → List ℕ → Seen
 seen n v s m o = record { number = n; verdict = v; state = s; store = m; out = o }
 
-pub record Step : Type 0 where
+pub record Outcome : Type 0 where
   pub seen : Seen
   pub events : List Event
 
-abbrev pub step : Seen → List Event → Step
-step x es = record { seen = x; events = es }
+abbrev pub outcome : Seen → List Event → Outcome
+outcome x es = record { seen = x; events = es }
 
 -- the state with other marks
 unfoldable pub withMarks : State → List ℕ → State

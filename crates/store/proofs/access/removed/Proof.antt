@@ -1,12 +1,12 @@
--- `store::moves::removed` meets its contract: a take, zeros written, and a mark cleared. Assumes nothing.
+-- `store::access::removed` meets its contract: a take, zeros written, and a mark cleared. Assumes nothing.
 use borrow.Author.Needs.{needs}
 use mathlib.Core.Path.{refl, ap₂}
 use Rattle.state.specs.Sizes.{valueSize}
-use Rattle.state.specs.Step.{withMarks}
-use Rattle.state.specs.Moves.{removed}
+use Rattle.state.specs.TakePut.{withMarks}
+use Rattle.state.specs.Access.{removed}
 use Rattle.store.proofs.Fields.{same-seen}
-use Rattle.store.proofs.moves.removed.Statement.{statement}
-use Rattle.store.proofs.moves.removed.Tie as tie
+use Rattle.store.proofs.access.removed.Statement.{statement}
+use Rattle.store.proofs.access.removed.Tie as tie
 
 returns : tie.Need-returns
 unfolding removed withMarks valueSize

@@ -13,14 +13,14 @@ use Rattle.refusal.specs.Refusal.{first}
 use Rattle.state.specs.Sizes.{valueSize, ceiling}
 use Rattle.state.specs.Marks.{used, marked, unmarked}
 use Rattle.state.specs.Cells.{Entry, valueAt, entryAt, writeEntry}
-use Rattle.state.specs.Step.{took, put, seen, step, withMarks, next, takeEntry, putEntry}
-use Rattle.state.specs.Moves.{addRows, useRows, removeRows, added, loaded, stored, removed}
+use Rattle.state.specs.TakePut.{took, put, seen, outcome, withMarks, next, takeEntry, putEntry}
+use Rattle.state.specs.Access.{addRows, exchangeRows, removeRows, added, loaded, stored, removed}
 use Rattle.state.specs.declared.Seal.{Seal}
 use Rattle.state.specs.declared.State.{State}
 use Rattle.state.specs.declared.Verdict.the-variants.{Nothing}
 use Rattle.state.proofs.Cells.{value-length}
 use Rattle.state.proofs.Marks.{used-marked, used-unmarked, length-marked, length-unmarked}
-use Rattle.state.proofs.Ready.{Ready, add-ready, use-ready, remove-ready}
+use Rattle.state.proofs.Ready.{Ready, add-ready, exchange-ready, remove-ready}
 use Rattle.bag.specs.Bag.{Bag, upd, noted}
 use Rattle.bag.specs.Following.{Follows, Holds, InCell}
 use Rattle.bag.proofs.Unbroken.{unbroken}
@@ -125,7 +125,7 @@ module _ (w : ℕ) (tag : Seal → Entry → List ℕ) (seal : Seal) (s : State)
     exchange-does : (c : Call) (out : List ℕ) → Ready w s m a true → length v ≡ valueSize → s .clock ≢ ceiling w
         → ((n : ℕ) (u : List ℕ) → Sets c n u → n ≡ a) → (b .held a ≡ some old → Kept b c a new)
         → ((n : ℕ) (o : List ℕ) → c ≡ load n o → b .held a ≡ some old → (d : Entry) × (b .held n ≡ some d) × (d .value ≡ out))
-        → Does w tag seal s m b c (step (seen 0 Nothing (putEntry tag (takeEntry tag s old) new) (writeEntry w m new) out) (took old ∷ put new ∷ []))
+        → Does w tag seal s m b c (outcome (seen 0 Nothing (putEntry tag (takeEntry tag s old) new) (writeEntry w m new) out) (took old ∷ put new ∷ []))
     unfolding noted next takeEntry putEntry entryAt
     exchange-does c out p l time only here answer =
         let taken : Bag = noted b (took old) in
@@ -147,17 +147,17 @@ module _ (w : ℕ) (tag : Seal → Entry → List ℕ) (seal : Seal) (s : State)
           accepts = λ x y q. absurd (unbroken (took old ∷ put new ∷ []) refl x y q);
         }
 
-  pub load-does : (a : ℕ) (o : List ℕ) → first (useRows w s m a o) ≡ 0 → Does w tag seal s m b (load a o) (loaded w tag s m a)
+  pub load-does : (a : ℕ) (o : List ℕ) → first (exchangeRows w s m a o) ≡ 0 → Does w tag seal s m b (load a o) (loaded w tag s m a)
   unfolding loaded entryAt next
   load-does a o e =
-      let p = use-ready w s m a o e in
+      let p = exchange-ready w s m a o e in
       exchange-does a (valueAt w m a) (load a o) (valueAt w m a) (p .0) (value-length w m a (p .0 .below) (p .0 .size)) (p .1 .time) (λ n u h. load-sets a o n u h)
       (λ k. inr ((λ u h. load-sets a o a u h), (entryAt w m a, k, refl))) (λ n u q k. let z : n ≡ a = cc in (entryAt w m a, ap (b .held) z ∙ k, refl))
 
-  pub store-does : (a : ℕ) (v : List ℕ) → first (useRows w s m a v) ≡ 0 → Does w tag seal s m b (store a v) (stored w tag s m a v)
+  pub store-does : (a : ℕ) (v : List ℕ) → first (exchangeRows w s m a v) ≡ 0 → Does w tag seal s m b (store a v) (stored w tag s m a v)
   unfolding stored next
   store-does a v e =
-      let p = use-ready w s m a v e in
+      let p = exchange-ready w s m a v e in
       exchange-does a v (store a v) [] (p .0) (p .1 .size) (p .1 .time) (store-sets a v) (λ k. inl (inr refl)) (λ n o q. let z : _≡_ {A = ℕ} 0 1 = cc in absurd (omega arith))
 
   -- ---- remove

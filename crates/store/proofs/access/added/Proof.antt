@@ -1,16 +1,16 @@
--- `store::moves::added` meets its contract: a put of the value given, and a mark set. Assumes nothing.
+-- `store::access::added` meets its contract: a put of the value given, and a mark set. Assumes nothing.
 use borrow.Author.Needs.{needs}
 use mathlib.Core.Path.{_≡_, refl, sym, ap, ap₂, _∙_}
 use lib.ListN.{replicate}
 use Rattle.lent.proofs.Copied.{copied-all}
 use Rattle.state.specs.Sizes.{valueSize, width}
 use Rattle.state.specs.Cells.{writeEntry}
-use Rattle.state.specs.Step.{next, putEntry, withMarks}
-use Rattle.state.specs.Moves.{added}
+use Rattle.state.specs.TakePut.{next, putEntry, withMarks}
+use Rattle.state.specs.Access.{added}
 use Rattle.entries.specs.Tag.{tag}
 use Rattle.store.proofs.Fields.{same-seen}
-use Rattle.store.proofs.moves.added.Statement.{statement}
-use Rattle.store.proofs.moves.added.Tie as tie
+use Rattle.store.proofs.access.added.Statement.{statement}
+use Rattle.store.proofs.access.added.Tie as tie
 
 returns : tie.Need-returns
 unfolding added withMarks valueSize

@@ -10,7 +10,7 @@ use Rattle.refusal.specs.Refusal.{Row, when, first, done}
 use Rattle.state.specs.Sizes.{addresses, valueSize, cellSize, storeSize, ceiling}
 use Rattle.state.specs.Marks.{used, marked, unmarked, lowestFree}
 use Rattle.state.specs.Cells.{Entry, valueAt, entryAt, writeCell, writeEntry}
-use Rattle.state.specs.Step.{took, put, seen, Step, step, withMarks, next, takeEntry, putEntry}
+use Rattle.state.specs.TakePut.{took, put, seen, Outcome, outcome, withMarks, next, takeEntry, putEntry}
 use Rattle.state.specs.declared.Seal.{Seal}
 use Rattle.state.specs.declared.State.{State}
 use Rattle.state.specs.declared.Verdict.the-variants.{Nothing}
@@ -18,8 +18,8 @@ use Rattle.state.specs.declared.Free.{Free}
 use Rattle.state.specs.declared.Free.the-variants.{At, Full}
 
 -- the rows
-abbrev pub shutRow : State → Row
-shutRow s = when 7 (s .closed)
+abbrev pub closedRow : State → Row
+closedRow s = when 7 (s .closed)
 
 abbrev pub storeRow : ℕ → List ℕ → Row
 storeRow w m = when 1 (not (eqb (length m) (storeSize w)))
@@ -30,71 +30,71 @@ addressRow a = when 2 (not (ltb a addresses))
 abbrev pub bufferRow : List ℕ → Row
 bufferRow b = when 3 (not (eqb (length b) valueSize))
 
-abbrev pub takenRow : State → ℕ → Row
-takenRow s a = when 4 (used (s .marks) a)
+abbrev pub usedRow : State → ℕ → Row
+usedRow s a = when 4 (used (s .marks) a)
 
-abbrev pub absentRow : State → ℕ → Row
-absentRow s a = when 5 (not (used (s .marks) a))
+abbrev pub unusedRow : State → ℕ → Row
+unusedRow s a = when 5 (not (used (s .marks) a))
 
 abbrev pub clockRow : ℕ → State → Row
 clockRow w s = when 6 (eqb (s .clock) (ceiling w))
 
 -- each call's, in order; b is the value given or the out buffer lent
 unfoldable pub addRows : ℕ → State → List ℕ → ℕ → List ℕ → List Row
-addRows w s m a b = shutRow s ∷ storeRow w m ∷ addressRow a ∷ bufferRow b ∷ takenRow s a ∷ clockRow w s ∷ []
+addRows w s m a b = closedRow s ∷ storeRow w m ∷ addressRow a ∷ bufferRow b ∷ usedRow s a ∷ clockRow w s ∷ []
 
 -- load's and store's
-unfoldable pub useRows : ℕ → State → List ℕ → ℕ → List ℕ → List Row
-useRows w s m a b = shutRow s ∷ storeRow w m ∷ addressRow a ∷ bufferRow b ∷ absentRow s a ∷ clockRow w s ∷ []
+unfoldable pub exchangeRows : ℕ → State → List ℕ → ℕ → List ℕ → List Row
+exchangeRows w s m a b = closedRow s ∷ storeRow w m ∷ addressRow a ∷ bufferRow b ∷ unusedRow s a ∷ clockRow w s ∷ []
 
 unfoldable pub removeRows : ℕ → State → List ℕ → ℕ → List Row
-removeRows w s m a = shutRow s ∷ storeRow w m ∷ addressRow a ∷ absentRow s a ∷ []
+removeRows w s m a = closedRow s ∷ storeRow w m ∷ addressRow a ∷ unusedRow s a ∷ []
 
 unfoldable pub lookRows : ℕ → List ℕ → ℕ → List Row
 lookRows w m a = storeRow w m ∷ addressRow a ∷ []
 
 -- a call of these rows: what it gives where it is done; where it is refused nothing has changed
-unfoldable pub call : List Row → State → List ℕ → List ℕ → Step → Step
-call rows s m o x = done (first rows) x (step (seen (first rows) Nothing s m o) [])
+unfoldable pub call : List Row → State → List ℕ → List ℕ → Outcome → Outcome
+call rows s m o x = done (first rows) x (outcome (seen (first rows) Nothing s m o) [])
 
 module _ (w : ℕ) (tag : Seal → Entry → List ℕ) where
   -- Add: a put, and the mark set
-  unfoldable pub added : State → List ℕ → ℕ → List ℕ → Step
+  unfoldable pub added : State → List ℕ → ℕ → List ℕ → Outcome
   added s m a v =
       let e = next s a v in
-      step (seen 0 Nothing (withMarks (putEntry tag s e) (marked (s .marks) a)) (writeEntry w m e) []) (put e ∷ [])
+      outcome (seen 0 Nothing (withMarks (putEntry tag s e) (marked (s .marks) a)) (writeEntry w m e) []) (put e ∷ [])
 
-  unfoldable pub addOf : State → List ℕ → ℕ → List ℕ → Step
+  unfoldable pub addOf : State → List ℕ → ℕ → List ℕ → Outcome
   addOf s m a v = call (addRows w s m a v) s m [] (added s m a v)
 
   -- Load: a take, and a put of the value read, which is handed out
-  unfoldable pub loaded : State → List ℕ → ℕ → Step
+  unfoldable pub loaded : State → List ℕ → ℕ → Outcome
   loaded s m a =
       let v = valueAt w m a in
       let t = takeEntry tag s (entryAt w m a) in
       let e = next t a v in
-      step (seen 0 Nothing (putEntry tag t e) (writeEntry w m e) v) (took (entryAt w m a) ∷ put e ∷ [])
+      outcome (seen 0 Nothing (putEntry tag t e) (writeEntry w m e) v) (took (entryAt w m a) ∷ put e ∷ [])
 
-  unfoldable pub loadOf : State → List ℕ → ℕ → List ℕ → Step
-  loadOf s m a o = call (useRows w s m a o) s m o (loaded s m a)
+  unfoldable pub loadOf : State → List ℕ → ℕ → List ℕ → Outcome
+  loadOf s m a o = call (exchangeRows w s m a o) s m o (loaded s m a)
 
   -- Store: a take, and a put of another value
-  unfoldable pub stored : State → List ℕ → ℕ → List ℕ → Step
+  unfoldable pub stored : State → List ℕ → ℕ → List ℕ → Outcome
   stored s m a v =
       let t = takeEntry tag s (entryAt w m a) in
       let e = next t a v in
-      step (seen 0 Nothing (putEntry tag t e) (writeEntry w m e) []) (took (entryAt w m a) ∷ put e ∷ [])
+      outcome (seen 0 Nothing (putEntry tag t e) (writeEntry w m e) []) (took (entryAt w m a) ∷ put e ∷ [])
 
-  unfoldable pub storeOf : State → List ℕ → ℕ → List ℕ → Step
-  storeOf s m a v = call (useRows w s m a v) s m [] (stored s m a v)
+  unfoldable pub storeOf : State → List ℕ → ℕ → List ℕ → Outcome
+  storeOf s m a v = call (exchangeRows w s m a v) s m [] (stored s m a v)
 
   -- Remove: a take, zeros in the cell, the mark cleared; the clock as it was
-  unfoldable pub removed : State → List ℕ → ℕ → Step
+  unfoldable pub removed : State → List ℕ → ℕ → Outcome
   removed s m a =
       let t = takeEntry tag s (entryAt w m a) in
-      step (seen 0 Nothing (withMarks t (unmarked (s .marks) a)) (writeCell w m a (replicate valueSize 0) 0) []) (took (entryAt w m a) ∷ [])
+      outcome (seen 0 Nothing (withMarks t (unmarked (s .marks) a)) (writeCell w m a (replicate valueSize 0) 0) []) (took (entryAt w m a) ∷ [])
 
-  unfoldable pub removeOf : State → List ℕ → ℕ → Step
+  unfoldable pub removeOf : State → List ℕ → ℕ → Outcome
   removeOf s m a = call (removeRows w s m a) s m [] (removed s m a)
 
 -- Look: the value's bytes in the store, or no bytes

@@ -1,16 +1,16 @@
--- `store::moves::stored` meets its contract: a take of the old entry, and a put of the value given. Assumes nothing.
+-- `store::access::stored` meets its contract: a take of the old entry, and a put of the value given. Assumes nothing.
 use borrow.Author.Needs.{needs}
 use mathlib.Core.Path.{_≡_, refl, sym, ap₂, _∙_}
 use lib.ListN.{replicate}
 use Rattle.lent.proofs.Copied.{copied-all}
 use Rattle.state.specs.Sizes.{valueSize, width}
 use Rattle.state.specs.Cells.{writeEntry}
-use Rattle.state.specs.Step.{next, putEntry}
-use Rattle.state.specs.Moves.{stored}
+use Rattle.state.specs.TakePut.{next, putEntry}
+use Rattle.state.specs.Access.{stored}
 use Rattle.entries.specs.Tag.{tag}
 use Rattle.store.proofs.Fields.{take-clock, same-seen}
-use Rattle.store.proofs.moves.stored.Statement.{statement}
-use Rattle.store.proofs.moves.stored.Tie as tie
+use Rattle.store.proofs.access.stored.Statement.{statement}
+use Rattle.store.proofs.access.stored.Tie as tie
 
 put-requires : tie.Need-put-requires
 put-requires c κs =

@@ -1,10 +1,10 @@
--- `store::moves::take` meets its contract: the entry read is hashed, and its stamp compared with the clock at entry. Assumes nothing.
+-- `store::access::take` meets its contract: the entry read is hashed, and its stamp compared with the clock at entry. Assumes nothing.
 use borrow.Author.Needs.{needs}
 use Rattle.state.specs.Sizes.{addresses, width}
 use Rattle.entries.specs.Tag.{tag}
 use Rattle.store.proofs.Fields.{take-is, fault-marked, fault-kept}
-use Rattle.store.proofs.moves.take.Statement.{statement}
-use Rattle.store.proofs.moves.take.Tie as tie
+use Rattle.store.proofs.access.take.Statement.{statement}
+use Rattle.store.proofs.access.take.Tie as tie
 
 returns : tie.Need-returns
 returns c =

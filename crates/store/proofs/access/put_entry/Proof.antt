@@ -1,11 +1,11 @@
--- `store::moves::put_entry` meets its contract: the entry is written and hashed. Assumes nothing.
+-- `store::access::put_entry` meets its contract: the entry is written and hashed. Assumes nothing.
 use borrow.Author.Needs.{needs}
 use Rattle.state.specs.Sizes.{addresses}
 use Rattle.state.specs.Cells.{entry, writeEntry}
 use Rattle.entries.specs.Tag.{tag}
 use Rattle.store.proofs.Fields.{put-is}
-use Rattle.store.proofs.moves.put_entry.Statement.{statement}
-use Rattle.store.proofs.moves.put_entry.Tie as tie
+use Rattle.store.proofs.access.put_entry.Statement.{statement}
+use Rattle.store.proofs.access.put_entry.Tie as tie
 
 returns : tie.Need-returns
 unfolding writeEntry
