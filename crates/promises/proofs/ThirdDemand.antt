@@ -1,4 +1,4 @@
--- A run's outcomeOf is the calls' definitions; the demand is proved for every width and every tag, so for these. Assumes nothing.
+-- What a call gives in a run is the call's definition; the demand is proved for every width and every tag, so for these. Assumes nothing.
 use mathlib.Core.Path.{refl}
 use native.Mathlib.Omega.{arith}
 use Rattle.entries.specs.Tag.{tag}

@@ -1,5 +1,6 @@
--- What is proved of the library, whole: the one name to ask the checker for. The calls' contracts, under their C names too, tell what the functions `l` give (the tie), and these keep the
--- three demands and the examples, with one tag throughout; and every public function's contract admits one outcome. Assumes nothing.
+-- What is proved of the library, whole: the one name to ask the checker for. The calls' contracts, under their C names too, tell what the functions `l` give
+-- (the tie), and these keep the three demands and the examples, with one tag throughout; and every public function's contract admits one outcome.
+-- Assumes nothing.
 use mathlib.Core.List.{List}
 use Prim.Native.Nat.{ℕ}
 use Rattle.state.specs.Cells.{Entry}

@@ -17,7 +17,6 @@ use Rattle.hmac.specs.Hmac.{hmac}
 use Rattle.state.specs.Cells.{Entry}
 use Rattle.state.specs.Multiset.{Fits, hash}
 use Rattle.state.specs.Counts.{times}
-use Rattle.state.specs.Start.{sealed}
 use Rattle.state.specs.Effects.{Effects}
 use Rattle.state.specs.declared.Seal.{Seal}
 use Rattle.filter.specs.Promises.{OneToOne}
@@ -37,7 +36,7 @@ pub record SecondDemand (tag : Seal → Entry → List ℕ) (l : Library) : Type
   pub starting-words : H0Rule
   -- the keyed tag, and that of an entry, whose message no other entry has
   pub mac : (k m out : List ℕ) → length k ≤ 1024 → length m ≤ 4096 → length out ≡ 32 → l .mac k m out ≡ filled 0 (hmac k m)
-  pub tags : (key : List ℕ) (e : Entry) → tag (sealed key) e ≡ hmac key (message33 e)
+  pub tags : (seal : Seal) (e : Entry) → tag seal e ≡ hmac (seal .key) (message33 e)
   pub one-entry : (d e : Entry) → Fits 2 d → Fits 2 e → message33 d ≡ message33 e → d ≡ e
   -- the hash of a multiset, listed in any order: the exclusive-or of all its tags, and how many elements there are
   pub hashes : (seal : Seal) (es : List Entry) → hash (tag seal) es ≡ record { tag = foldl xor (replicate 32 0) (map (tag seal) es); number = length es % 4294967296 }

@@ -3,8 +3,8 @@
 -- accepted check the entries put in its period, no two alike, and the entries taken in it are different multisets with one hash. And if the cells in use
 -- reach each call unaltered, every check that is not refused accepts.
 --
--- The statement is `Demand3` (crate `run`), over a start and a outcomeOf; here the library's calls are that start and that outcomeOf. A look, a count and a search for
--- the lowest free address may stand in a run and change nothing in it. Assumes nothing.
+-- The statement is `Demand3` (crate `run`), over the state that a start gives and the outcome of each call; here these are what the library's calls give. A
+-- look, a count and a search for the lowest free address may stand in a run and change nothing in it. Assumes nothing.
 use mathlib.Core.Path.{_≡_}
 use mathlib.Core.List.{List, []}
 use Prim.Native.Nat.{ℕ}
