@@ -8,7 +8,7 @@ use native.Mathlib.Omega.{arith}
 use lib.Dec.{ltb}
 use borrow.Author.Tests.{ltb-true, ltb-false, le-ltb}
 use Rattle.state.specs.Cells.{Entry}
-use Rattle.state.specs.Counts.{bit, times}
+use Rattle.state.specs.Counts.{once, times}
 use Rattle.state.specs.TakePut.{Event, took, put, accepted}
 use Rattle.state.proofs.Multiset.{sameEntry-refl}
 use Rattle.bag.specs.Bag.{Bag, empty, listed, noted}
@@ -22,7 +22,7 @@ held-on-time b o e h = go (ltb (b .clock) (e .stamp)) refl
   where
     go : (t : Bool) → ltb (b .clock) (e .stamp) ≡ t → e .stamp ≤ b .clock
     go true k =
-        let z : heldTimes (b .held (e .address)) e ≡ 1 = ap (λ (x : Option Entry). heldTimes x e) h ∙ ap bit (sameEntry-refl e) in
+        let z : heldTimes (b .held (e .address)) e ≡ 1 = ap (λ (x : Option Entry). heldTimes x e) h ∙ ap once (sameEntry-refl e) in
         absurd (omega (arith, o .later e (ltb-true (b .clock) (e .stamp) k), o .balance e))
     go false k = ltb-false (b .clock) (e .stamp) k
 

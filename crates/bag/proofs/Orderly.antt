@@ -12,7 +12,7 @@ use lib.ListN.{length, length-append}
 use borrow.Author.Tests.{eqb-true, eqb-false, eq-eqb}
 use Rattle.state.specs.Cells.{Entry}
 use Rattle.state.specs.Multiset.{hash}
-use Rattle.state.specs.Counts.{sameEntry, bit, times}
+use Rattle.state.specs.Counts.{sameEntry, once, times}
 use Rattle.state.specs.TakePut.{Event, took, put, accepted}
 use Rattle.state.proofs.Multiset.{sameEntry-true, times-last, same-counts}
 use Rattle.state.specs.declared.Hash.{Hash}
@@ -93,15 +93,15 @@ module _ (tag : Entry → List ℕ) (b : Bag) (o : Orderly b) where
       clock : b .clock ≤ e .stamp
       clock = elim s [ inl h ↦ omega arith | inr (n, h) ↦ omega arith ]
 
-      later : (c : Entry) → e .stamp < c .stamp → (t : Bool) → sameEntry c e ≡ t → bit (sameEntry c e) + times c (b .puts) ≡ 0
+      later : (c : Entry) → e .stamp < c .stamp → (t : Bool) → sameEntry c e ≡ t → once (sameEntry c e) + times c (b .puts) ≡ 0
       later c k true q = absurd (omega (arith, same-stamp c e q))
       later c k false q = rw q (omega (arith, o .later c (omega (arith, clock))))
 
-      alike : (c : Entry) (t : Bool) → sameEntry c e ≡ t → bit (sameEntry c e) + times c (b .puts) ≤ 1
+      alike : (c : Entry) (t : Bool) → sameEntry c e ≡ t → once (sameEntry c e) + times c (b .puts) ≤ 1
       alike c true q = let f = ap (λ (x : Entry). times x (b .puts)) (sameEntry-true c e q) in rw q (omega (arith, f, new e free s))
       alike c false q = rw q (omega (arith, o .alike c))
 
-      balance : (c : Entry) (t : Bool) → eqb (c .address) (e .address) ≡ t → bit (sameEntry c e) + times c (b .puts) ≡ times c (b .owed) + heldTimes (upd (b .held) (e .address) (some e) (c .address)) c
+      balance : (c : Entry) (t : Bool) → eqb (c .address) (e .address) ≡ t → once (sameEntry c e) + times c (b .puts) ≡ times c (b .owed) + heldTimes (upd (b .held) (e .address) (some e) (c .address)) c
       balance c true q =
           let f : heldTimes (b .held (c .address)) c ≡ 0 = ap (λ (x : Option Entry). heldTimes x c) (ap (b .held) (eqb-true _ _ q) ∙ free) in
           rw (upd-same (b .held) (e .address) (some e) (c .address) q) (omega (arith, o .balance c))
@@ -121,9 +121,9 @@ module _ (tag : Entry → List ℕ) (b : Bag) (o : Orderly b) where
       at : d .address ≡ e .address
       at = o .placed (e .address) d h
 
-      balance : (c : Entry) (t : Bool) → eqb (c .address) (e .address) ≡ t → times c (b .puts) ≡ bit (sameEntry c d) + times c (b .owed) + heldTimes (upd (b .held) (e .address) none (c .address)) c
+      balance : (c : Entry) (t : Bool) → eqb (c .address) (e .address) ≡ t → times c (b .puts) ≡ once (sameEntry c d) + times c (b .owed) + heldTimes (upd (b .held) (e .address) none (c .address)) c
       balance c true q =
-          let f : heldTimes (b .held (c .address)) c ≡ bit (sameEntry c d) = ap (λ (x : Option Entry). heldTimes x c) (ap (b .held) (eqb-true _ _ q) ∙ h) in
+          let f : heldTimes (b .held (c .address)) c ≡ once (sameEntry c d) = ap (λ (x : Option Entry). heldTimes x c) (ap (b .held) (eqb-true _ _ q) ∙ h) in
           rw (upd-same (b .held) (e .address) none (c .address) q) (omega (arith, o .balance c))
       balance c false q =
           rw (upd-other (b .held) (e .address) none (c .address) q, other-entry c d (ap (eqb (c .address)) at ∙ q)) (omega (arith, o .balance c))

@@ -10,7 +10,7 @@ use native.Mathlib.Omega.{arith}
 use lib.Dec.{ltb}
 use borrow.Author.Tests.{ltb-false}
 use Rattle.state.specs.Cells.{Entry}
-use Rattle.state.specs.Counts.{sameEntry, bit, times}
+use Rattle.state.specs.Counts.{sameEntry, once, times}
 use Rattle.state.specs.TakePut.{Event, took, put, accepted}
 use Rattle.state.proofs.Multiset.{sameEntry-true, times-last, times-self}
 use Rattle.bag.specs.Bag.{Bag, empty, listed, noted, follow}
@@ -43,7 +43,7 @@ module _ (tag : Entry → List ℕ) where
             let f : e ≡ d = sameEntry-true e d p in
             right (ap₂ _++_ q (ap (λ (x : Entry). x ∷ []) f ∙ ap listed (sym h))) (r, h ∙ ap some (sym f))
         same k false p =
-            let z : heldTimes (b .held (e .address)) e ≡ 0 = ap (λ (x : Option Entry). heldTimes x e) h ∙ ap bit p in
+            let z : heldTimes (b .held (e .address)) e ≡ 0 = ap (λ (x : Option Entry). heldTimes x e) h ∙ ap once p in
             bad e k (omega (arith, o .balance e, ap (times e) q, times-self e (b .takes)))
 
         stamp : (t : Bool) → ltb (b .clock) (e .stamp) ≡ t → Then
@@ -57,7 +57,7 @@ module _ (tag : Entry → List ℕ) where
     put-stands e s (bad c k n) =
         elim s [ inl g ↦ bad c (omega arith) (rw (times-last c (b .puts) e) (differs (omega arith) (sameEntry c e) refl)) | inr (g, f) ↦ absurd (omega (arith, ap (times c) g)) ]
       where
-        differs : b .clock < e .stamp → (t : Bool) → sameEntry c e ≡ t → bit (sameEntry c e) + times c (b .puts) < times c (b .takes)
+        differs : b .clock < e .stamp → (t : Bool) → sameEntry c e ≡ t → once (sameEntry c e) + times c (b .puts) < times c (b .takes)
         differs g true q = absurd (omega (arith, same-stamp c e q))
         differs g false q = rw q (omega arith)
 

@@ -10,7 +10,7 @@ use Prim.Native.Nat.{ℕ, _+_, _≤_, _<_}
 use lib.ListN.{length}
 use Rattle.state.specs.Cells.{Entry}
 use Rattle.state.specs.Multiset.{hash}
-use Rattle.state.specs.Counts.{sameEntry, bit, times}
+use Rattle.state.specs.Counts.{sameEntry, once, times}
 use Rattle.state.specs.TakePut.{Event, accepted}
 use Rattle.bag.specs.Bag.{Bag, follow}
 use Rattle.bag.specs.Law.{Bare, Lawful, Right}
@@ -18,7 +18,7 @@ use Rattle.bag.specs.Law.{Bare, Lawful, Right}
 -- how often an entry is held at its address: once or not at all
 abbrev pub heldTimes : Option Entry → Entry → ℕ
 heldTimes none c = 0
-heldTimes (some e) c = bit (sameEntry c e)
+heldTimes (some e) c = once (sameEntry c e)
 
 -- no stamp put is above the clock; no two puts are alike; an entry is held at its own address; each put is held still or was owed by one take, and each take
 -- owed one entry: what was put is what was owed and what is held

@@ -6,7 +6,7 @@ ghost use mathlib.Core.Bool.{cond};
 ghost use mathlib.Core.List.{[]};
 ghost use Prim.Native.Nat.{_+_, _*_};
 ghost use denote.Ref.{ptr};
-ghost use Rattle.lent.specs.Lent.{place};
+ghost use Rattle.lent.specs.Lent.{lies};
 ghost use Rattle.state.specs.Sizes.{width, cellSize};
 ghost use Rattle.state.specs.Cells.{entry, valueAt, stampAt, cellOf, writeCell};
 ghost use Rattle.state.specs.Multiset.{message};
@@ -36,7 +36,7 @@ fn has_cell(store: &[u8], a: usize) -> bool
 // The part of a store that is an address's value; no bytes where it has no such cell.
 pub fn value_part(store: &[u8], a: usize) -> &[u8]
     ensures { λ r. ⌜ (now r ≡ cond (hasCell width (now (store .entry)) a) (valueAt width (now (store .entry)) a) [])
-        × (ptr r ≡ place (store .entry) (cond (hasCell width (now (store .entry)) a) (cellSize width * a) 0)) ⌝ }
+        × (ptr r ≡ lies (store .entry) (cond (hasCell width (now (store .entry)) a) (cellSize width * a) 0)) ⌝ }
 {
     if has_cell(store, a) {
         let at = State::CELL * a;

@@ -10,5 +10,5 @@ unfoldable pub copied : List ℕ → List ℕ → List ℕ
 copied to from = take (length to) from ++ drop (length from) to
 
 -- where byte i of a lent slice lies: the slice's block of memory, and how far into it
-abbrev pub place : RefT (List ℕ) → ℕ → ℕ × ℕ
-place s i = (ptr s .0, i + ptr s .1)
+abbrev pub lies : RefT (List ℕ) → ℕ → ℕ × ℕ
+lies s i = (ptr s .0, i + ptr s .1)

@@ -5,5 +5,5 @@ use Prim.Native.Nat.{ℕ}
 use Rattle.refusal.specs.Refusal.{Row, done}
 
 -- the number given so far; a further row's where there is none and the row holds
-abbrev pub after : ℕ → Row → ℕ
-after n r = done n (cond (r .holds) (r .number) 0) n
+abbrev pub further : ℕ → Row → ℕ
+further n r = done n (cond (r .holds) (r .number) 0) n

@@ -5,11 +5,11 @@ ghost use Rattle.refusal.specs.Refusal.{when, first};
 ghost use Rattle.state.specs.Sizes.{width};
 ghost use Rattle.state.specs.Access.{addRows, exchangeRows, removeRows, lookRows};
 ghost use Rattle.state.specs.Check.{checkRows};
-ghost use Rattle.numbers.specs.Rows.{after};
+ghost use Rattle.numbers.specs.Rows.{further};
 
 // The number given so far; a further row's where there is none and the row holds.
 fn row(given: u8, number: u8, holds: bool) -> u8
-    ensures { λ r. ⌜ r ≡ after given (when number holds) ⌝ }
+    ensures { λ r. ⌜ r ≡ further given (when number holds) ⌝ }
 {
     if given == 0 && holds {
         return number;

@@ -80,7 +80,7 @@ outcomes = record {
   same = record { any = λ κs a. tt; one = λ κs a r r′ l l′. plain };
   agrees = record { any = λ κs a. tt; one = λ κs a r r′ l l′. plain };
   opened = record { any = λ κs a. tt; one = λ κs a r r′ l l′. plain };
-  shut = record { any = λ κs a. tt; one = λ κs a r r′ l l′. plain };
+  close = record { any = λ κs a. tt; one = λ κs a r r′ l l′. plain };
   decimal = record { any = λ κs a. tt; one = λ κs a r r′ l l′. plain };
   hex = record { any = λ κs a. tt; one = λ κs a r r′ l l′. plain };
   put = record { any = λ κs a. tt; one = λ κs a r r′ l l′. again place (λ y. (y .bytes, (tt, (tt, tt)))) };

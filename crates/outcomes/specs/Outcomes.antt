@@ -51,7 +51,7 @@ use Rattle.multiset.proofs.with_tag as WithTag
 use Rattle.multiset.proofs.same as Same
 use Rattle.periods.proofs.agrees as Agrees
 use Rattle.periods.proofs.opened as Opened
-use Rattle.periods.proofs.shut as Shut
+use Rattle.periods.proofs.close as Close
 use Rattle.text.proofs.decimal as Decimal
 use Rattle.text.proofs.hex as Hex
 use Rattle.page.proofs.put as Put
@@ -123,7 +123,7 @@ pub record Outcomes : Type 1 where
   pub same : Tight Same.ended Same.Reads.Asked Same.Reads.Learnt
   pub agrees : Tight Agrees.ended Agrees.Reads.Asked Agrees.Reads.Learnt
   pub opened : Tight Opened.ended Opened.Reads.Asked Opened.Reads.Learnt
-  pub shut : Tight Shut.ended Shut.Reads.Asked Shut.Reads.Learnt
+  pub close : Tight Close.ended Close.Reads.Asked Close.Reads.Learnt
   -- the bench's library
   pub decimal : Tight Decimal.ended Decimal.Reads.Asked Decimal.Reads.Learnt
   pub hex : Tight Hex.ended Hex.Reads.Asked Hex.Reads.Learnt

@@ -2,7 +2,7 @@
 use state::Hash;
 use state::State;
 ghost use mathlib.Core.Path.{_≡_};
-ghost use Rattle.state.specs.TakePut.{shut};
+ghost use Rattle.state.specs.TakePut.{close};
 ghost use Rattle.state.specs.Check.{opened, agrees};
 
 // Is no fault marked, and are the hashes equal. The mark is no secret and stands first: where it is set the hashes are not looked at.
@@ -30,8 +30,8 @@ pub fn opened(s: State) -> State
 }
 
 // The state, closed.
-pub fn shut(s: State) -> State
-    ensures { λ r. ⌜ r ≡ shut s ⌝ }
+pub fn close(s: State) -> State
+    ensures { λ r. ⌜ r ≡ close s ⌝ }
 {
     let mut r = s;
     r.closed = true;

@@ -8,7 +8,7 @@ use denote.Ref.{ptr, now}
 use denote.Triple.Entry.{Args, Res}
 use denote.Triple.Clauses.{Ended, Lasts, AtExit, atExit}
 use Rattle.refusal.specs.Refusal.{filled}
-use Rattle.lent.specs.Lent.{place}
+use Rattle.lent.specs.Lent.{lies}
 use Rattle.page.specs.Page.{page, whole}
 use Rattle.state.specs.TakePut.{seen}
 use Rattle.state.specs.declared.Verdict.the-variants.{Nothing}
@@ -48,7 +48,7 @@ pub record Tied (l : Library) : Type 1 where
       (λ κs a r e. seen (r .number) (r .verdict) (r .state) (e .1 .0) [] ≡ l .store .check (a .0) (now (a .1 .0)))
   -- the part that a look gives lies in the lent store itself
   pub look : Tells Look.ended Look.Reads.Learnt
-      (λ κs a r e. (now r ≡ l .store .look (now (a .0)) (a .1 .0)) × (ptr r ≡ place (a .0) (l .store .look-from (now (a .0)) (a .1 .0))))
+      (λ κs a r e. (now r ≡ l .store .look (now (a .0)) (a .1 .0)) × (ptr r ≡ lies (a .0) (l .store .look-from (now (a .0)) (a .1 .0))))
   pub count : Tells Count.ended Count.Reads.Learnt (λ κs a r e. r ≡ l .store .count (a .0))
   pub lowest-free : Tells LowestFree.ended LowestFree.Reads.Learnt (λ κs a r e. r ≡ l .store .lowest-free (a .0))
   pub digest : Tells Digest.ended Digest.Reads.Learnt (λ κs a r e. filled r (e .1 .0) ≡ l .digest (now (a .0)) (now (a .1 .0)))

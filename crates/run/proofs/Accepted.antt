@@ -12,7 +12,7 @@ use Rattle.state.specs.declared.State.{State}
 use Rattle.state.specs.declared.Verdict.the-variants.{Accept}
 use Rattle.bag.proofs.Lists.{no-place}
 use Rattle.bag.proofs.Cases.{by-cond}
-use Rattle.run.specs.Calls.{Call, check, Lent, lent, outcomeOf, events}
+use Rattle.run.specs.Calls.{Call, check, Made, made, outcomeOf, events}
 use Rattle.run.specs.Demand3.{stateAfter, result, eventsOf, Accepts}
 use Rattle.run.proofs.Does.{still, does}
 use Rattle.run.proofs.Steps.{by-rows}
@@ -29,15 +29,15 @@ accepts-gives w tag s m =
 
 module _ (w : ℕ) (tag : Seal → Entry → List ℕ) (key : List ℕ) where
   -- a check of the run that accepts, what was done up to its verdict being `past`
-  pub record AcceptedCheck (run : List Lent) (past : List Event) : Type 0 where
-    pub before : List Lent
-    pub later : List Lent
+  pub record AcceptedCheck (run : List Made) (past : List Event) : Type 0 where
+    pub before : List Made
+    pub later : List Made
     pub bytes : List ℕ
-    pub place : run ≡ before ++ (lent check bytes ∷ later)
+    pub place : run ≡ before ++ (made check bytes ∷ later)
     pub accepts : Accepts w tag key before bytes
     pub upTo : past ≡ eventsOf w tag key before ++ takes w (stateAfter w tag key before) bytes
 
-  pub accepted-check : (run : List Lent) (past rest : List Event) → eventsOf w tag key run ≡ past ++ (accepted ∷ rest) → AcceptedCheck run past
+  pub accepted-check : (run : List Made) (past rest : List Event) → eventsOf w tag key run ≡ past ++ (accepted ∷ rest) → AcceptedCheck run past
   accepted-check run past rest e =
       elim (run-did w tag key (k .before) (k .call)) [
         | still n ↦ absurd (no-place (k .first) accepted (k .rest) (sym (n .events) ∙ k .within))
@@ -47,8 +47,8 @@ module _ (w : ℕ) (tag : Seal → Entry → List ℕ) (key : List ℕ) where
               before = k .before;
               later = k .later;
               bytes = k .call .bytes;
-              place = k .place ∙ ap (λ (c : Call). k .before ++ (lent c (k .call .bytes) ∷ k .later)) (h .0);
-              accepts = ap (λ (c : Call). result w tag key (k .before) (lent c (k .call .bytes)) .seen .verdict) (sym (h .0)) ∙ h .1;
+              place = k .place ∙ ap (λ (c : Call). k .before ++ (made c (k .call .bytes) ∷ k .later)) (h .0);
+              accepts = ap (λ (c : Call). result w tag key (k .before) (made c (k .call .bytes)) .seen .verdict) (sym (h .0)) ∙ h .1;
               upTo = k .upTo ∙ ap (λ (es : List Event). eventsOf w tag key (k .before) ++ es) (h .2);
             }
       ]
@@ -56,11 +56,11 @@ module _ (w : ℕ) (tag : Seal → Entry → List ℕ) (key : List ℕ) where
       k : CallOf (doneBy w tag key) (eventsOf w tag key) (events-none w tag key) (events-last w tag key) run past accepted
       k = call-of (doneBy w tag key) (eventsOf w tag key) (events-none w tag key) (events-last w tag key) accepted run past rest e
 
-  pub check-accepted : (run : List Lent) (past : List Event) → AcceptedCheck run past → (rest : List Event) × (eventsOf w tag key run ≡ past ++ (accepted ∷ rest))
+  pub check-accepted : (run : List Made) (past : List Event) → AcceptedCheck run past → (rest : List Event) × (eventsOf w tag key run ≡ past ++ (accepted ∷ rest))
   unfolding events acceptance
   check-accepted run past c = (
     puts w s m ++ rest,
-    ap (eventsOf w tag key) (c .place) ∙ events-append w tag (startOf key .state) (c .before) (lent check m ∷ c .later)
+    ap (eventsOf w tag key) (c .place) ∙ events-append w tag (startOf key .state) (c .before) (made check m ∷ c .later)
         ∙ ap (λ (es : List Event). eventsOf w tag key (c .before) ++ (es ++ rest)) (ap (λ (r : Outcome). r .events) (accepts-gives w tag s m (c .accepts)))
         ∙ regroup (eventsOf w tag key (c .before)) (takes w s m) (puts w s m) rest ∙ ap (λ (es : List Event). es ++ (accepted ∷ (puts w s m ++ rest))) (sym (c .upTo)),
   )
@@ -72,7 +72,7 @@ module _ (w : ℕ) (tag : Seal → Entry → List ℕ) (key : List ℕ) where
       m = c .bytes
 
       rest : List Event
-      rest = events w tag (result w tag key (c .before) (lent check m) .seen .state) (c .later)
+      rest = events w tag (result w tag key (c .before) (made check m) .seen .state) (c .later)
 
       regroup : (a t p r : List Event) → a ++ ((t ++ (accepted ∷ p)) ++ r) ≡ (a ++ t) ++ (accepted ∷ (p ++ r))
       regroup a t p r = simp append-assoc

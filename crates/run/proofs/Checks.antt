@@ -13,7 +13,7 @@ use Rattle.refusal.specs.Refusal.{first}
 use Rattle.state.specs.Marks.{used, inUse}
 use Rattle.state.specs.Cells.{Entry, entryAt}
 use Rattle.state.specs.Multiset.{hash}
-use Rattle.state.specs.TakePut.{Event, took, put, accepted, shut}
+use Rattle.state.specs.TakePut.{Event, took, put, accepted, close}
 use Rattle.state.specs.Check.{checkRows, taken, opening, reput, opened, agrees, takes, puts, writeAll, takeAll, putAll, acceptance, rejection}
 use Rattle.state.specs.declared.Seal.{Seal}
 use Rattle.state.specs.declared.State.{State}
@@ -86,7 +86,7 @@ module _ (w : ℕ) (tag : Seal → Entry → List ℕ) (seal : Seal) (s : State)
   taken-unbroken = unbroken (takes w s m) (takes-plain (taken w (s .marks) m))
 
   rejection-does : length m ≡ storeSize w → Does w tag seal s m b check (rejection w tag s m)
-  unfolding rejection shut takes
+  unfolding rejection close takes
   rejection-does size =
       record {
         number = refl;

@@ -22,7 +22,7 @@ use Rattle.bag.proofs.Lists.{place-stays}
 use Rattle.bag.proofs.Along.{along-append}
 use Rattle.bag.proofs.Orderly.{there, none-some, empty-orderly}
 use Rattle.bag.proofs.Complete.{complete}
-use Rattle.run.specs.Calls.{check, Lent, lent, outcomeOf}
+use Rattle.run.specs.Calls.{check, Made, made, outcomeOf}
 use Rattle.run.specs.Demand3.{stateAfter, result, eventsOf, Done, Accepts, Touches, Unaltered, EachCheck}
 use Rattle.run.proofs.Does.{still, does}
 use Rattle.run.proofs.Checks.{taken-lawful, taken-right, taken-bare}
@@ -32,35 +32,35 @@ use Rattle.run.proofs.Exact.{check-done, check-follows}
 use Rattle.run.proofs.Sized.{run-room}
 
 module _ (w : ℕ) (one : 1 ≤ w) (tag : Seal → Entry → List ℕ) (key : List ℕ) where
-  abbrev leaves : List Lent → Lent → List ℕ
+  abbrev leaves : List Made → Made → List ℕ
   leaves run x = result w tag key run x .seen .store
 
-  moving : (run : List Lent) (x : Lent) → Touches w tag key run x ⊎ ((Touches w tag key run x → ⊥) × (doneBy w tag key run x ≡ []))
+  moving : (run : List Made) (x : Made) → Touches w tag key run x ⊎ ((Touches w tag key run x → ⊥) × (doneBy w tag key run x ≡ []))
   moving run x = elim (run-did w tag key run x) [ still n ↦ inr ((λ m. n .idle (m .0) (m .1)), n .events) | does o y d ↦ inl (d .number, y) ]
 
-  moves-honest : (run : List Lent) (x : Lent) → Touches w tag key run x → Holds w (bagOf w tag key run) (x .bytes)
+  moves-honest : (run : List Made) (x : Made) → Touches w tag key run x → Holds w (bagOf w tag key run) (x .bytes)
       → Right (bagOf w tag key run) (doneBy w tag key run x) × Holds w (follow (bagOf w tag key run) (doneBy w tag key run x)) (leaves run x)
   moves-honest run x m h = moves-does w tag key run x m .1 .honest (run-room w tag key one run) h
 
-  abbrev LeftBy : List Lent → Type 0
+  abbrev LeftBy : List Made → Type 0
   LeftBy run = Left (doneBy w tag key) (eventsOf w tag key) (events-none w tag key) (events-last w tag key) w (Touches w tag key) (λ x. x .bytes) leaves moving moves-honest run (eventsOf w tag key run)
 
   -- what such a call is lent holds what is held
-  lent-holds : (run : List Lent) → Unaltered w tag key run → (before later : List Lent) (x : Lent) → run ≡ before ++ (x ∷ later) → Touches w tag key before x → LeftBy before → Holds w (bagOf w tag key before) (x .bytes)
+  lent-holds : (run : List Made) → Unaltered w tag key run → (before later : List Made) (x : Made) → run ≡ before ++ (x ∷ later) → Touches w tag key before x → LeftBy before → Holds w (bagOf w tag key before) (x .bytes)
   lent-holds run u before later x place m (inl n) a e h = none-some (n a) h
   lent-holds run u before later x place m (inr (l, k)) a e h =
       u before later x place m l a (invariant w tag key before .follows (moves-does w tag key before x m .0) .1 .marked a ∙ ap there h) ∙ k a e h
 
-  honest : (run : List Lent) → Unaltered w tag key run → Right (empty 0) (eventsOf w tag key run) × LeftBy run
+  honest : (run : List Made) → Unaltered w tag key run → Right (empty 0) (eventsOf w tag key run) × LeftBy run
   honest run u =
       lent-right (doneBy w tag key) (eventsOf w tag key) (events-none w tag key) (events-last w tag key) w (Touches w tag key) (λ x. x .bytes) leaves moving moves-honest run (lent-holds run u)
 
-  pub unaltered-part : (p q : List Lent) → Unaltered w tag key (p ++ q) → Unaltered w tag key p
+  pub unaltered-part : (p q : List Made) → Unaltered w tag key (p ++ q) → Unaltered w tag key p
   unaltered-part p q u before later x e = u before (later ++ q) x (place-stays p before x later q e)
 
   -- ---- a check
 
-  module _ (run : List Lent) (m : List ℕ) (u : Unaltered w tag key (run ++ (lent check m ∷ []))) (d : Done w tag key run (lent check m)) where
+  module _ (run : List Made) (m : List ℕ) (u : Unaltered w tag key (run ++ (made check m ∷ []))) (d : Done w tag key run (made check m)) where
     abbrev s : State
     s = stateAfter w tag key run
 
@@ -73,12 +73,12 @@ module _ (w : ℕ) (one : 1 ≤ w) (tag : Seal → Entry → List ℕ) (key : Li
     all-complete : (follow (empty 0) all .fault ≡ false) × (Bare (follow (empty 0) all) → (c : Entry) → times c (follow (empty 0) all .puts) ≡ times c (follow (empty 0) all .takes))
     unfolding empty
     all-complete =
-        let h = honest run (unaltered-part run (lent check m ∷ []) u) in
+        let h = honest run (unaltered-part run (made check m ∷ []) u) in
         let k = invariant w tag key run .follows unclosed in
         let b = bagOf w tag key run in
         complete (tag (sealed key)) (empty 0) all (empty-orderly 0) refl refl
         (along-append (May (tag (sealed key))) (empty 0) (eventsOf w tag key run) (takes w s m) (invariant w tag key run .lawful) (taken-lawful w tag (sealed key) s m b (k .0) (k .1)))
-        (along-append TakesHeld (empty 0) (eventsOf w tag key run) (takes w s m) (h .0) (taken-right w tag (sealed key) s m b (k .0) (k .1) (lent-holds (run ++ (lent check m ∷ [])) u run [] (lent check m) refl (d, refl) (h .1))))
+        (along-append TakesHeld (empty 0) (eventsOf w tag key run) (takes w s m) (h .0) (taken-right w tag (sealed key) s m b (k .0) (k .1) (lent-holds (run ++ (made check m ∷ [])) u run [] (made check m) refl (d, refl) (h .1))))
 
     -- what was put is what was taken
     pub check-even : (c : Entry) → times c (follow (empty 0) all .puts) ≡ times c (follow (empty 0) all .takes)
@@ -93,6 +93,6 @@ module _ (w : ℕ) (one : 1 ≤ w) (tag : Seal → Entry → List ℕ) (key : Li
         let f = check-follows w tag key run m unclosed in
         equal-accepts w tag s m (check-done w tag s m d) (f .put ∙ same-counts (tag (sealed key)) _ _ check-even ∙ sym (f .take)) (f .fault ∙ all-complete .0)
 
-  pub complete-each : (run : List Lent) → Unaltered w tag key run → EachCheck w tag key run
+  pub complete-each : (run : List Made) → Unaltered w tag key run → EachCheck w tag key run
   complete-each run u before later m e d =
-      complete-at before m (unaltered-part (before ++ (lent check m ∷ [])) later (subst (Unaltered w tag key) (e ∙ sym (append-assoc before (lent check m ∷ []) later)) u)) d
+      complete-at before m (unaltered-part (before ++ (made check m ∷ [])) later (subst (Unaltered w tag key) (e ∙ sym (append-assoc before (made check m ∷ []) later)) u)) d

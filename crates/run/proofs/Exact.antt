@@ -20,7 +20,7 @@ use Rattle.bag.specs.Following.{Follows}
 use Rattle.bag.proofs.Cases.{by-cond}
 use Rattle.bag.proofs.Orderly.{empty-orderly, stays-orderly}
 use Rattle.bag.proofs.Faults.{on-time, calm-after}
-use Rattle.run.specs.Calls.{check, outcomeOf, Lent}
+use Rattle.run.specs.Calls.{check, outcomeOf, Made}
 use Rattle.run.specs.Demand3.{NoTwoAlike, putIn, Since, stateAfter, eventsOf}
 use Rattle.run.specs.Exact.{tick, clockAfter, Ahead, NoneAhead, OnePeriod, Tells, StateExact, CheckExact}
 use Rattle.run.proofs.Checks.{taken-follows}
@@ -87,7 +87,7 @@ pub state-exact : (w : ℕ) (tag : Seal → Entry → List ℕ) → StateExact w
 state-exact w tag key run o period since = follows-tells (eventsOf w tag key run) period since tag (sealed key) (stateAfter w tag key run) (invariant w tag key run .follows o .0)
 
 -- the state after the takes of a check follows them
-pub check-follows : (w : ℕ) (tag : Seal → Entry → List ℕ) (key : List ℕ) (run : List Lent) (m : List ℕ) → let s = stateAfter w tag key run in s .closed ≡ false
+pub check-follows : (w : ℕ) (tag : Seal → Entry → List ℕ) (key : List ℕ) (run : List Made) (m : List ℕ) → let s = stateAfter w tag key run in s .closed ≡ false
     → Follows tag (sealed key) (takeAll w tag s m) (follow (empty 0) (eventsOf w tag key run ++ takes w s m))
 check-follows w tag key run m o =
     let s = stateAfter w tag key run in
@@ -111,7 +111,7 @@ check-exact w tag key run m d period since = (
     h = follows-tells (eventsOf w tag key run ++ takes w s m) period since tag (sealed key) (takeAll w tag s m) (check-follows w tag key run m (check-ready w s m e .0))
 
 -- of the entries put in a period no two are alike
-pub alike-now : (w : ℕ) (tag : Seal → Entry → List ℕ) (key : List ℕ) (run : List Lent) (period : List Event) → Since (eventsOf w tag key run) period → NoTwoAlike (putIn period)
+pub alike-now : (w : ℕ) (tag : Seal → Entry → List ℕ) (key : List ℕ) (run : List Made) (period : List Event) → Since (eventsOf w tag key run) period → NoTwoAlike (putIn period)
 alike-now w tag key run period p =
     let all = eventsOf w tag key run in
     subst NoTwoAlike (since-puts all period p) (stays-orderly (tag (sealed key)) (empty 0) all (empty-orderly 0) (invariant w tag key run .lawful) .alike)

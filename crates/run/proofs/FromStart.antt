@@ -20,7 +20,7 @@ use Rattle.bag.specs.Bag.{Bag, empty, noted, follow}
 use Rattle.bag.specs.Law.{May, Lawful}
 use Rattle.bag.specs.Following.{Follows}
 use Rattle.bag.proofs.Along.{along-append}
-use Rattle.run.specs.Calls.{Call, Lent, outcomeOf, after, events}
+use Rattle.run.specs.Calls.{Call, Made, outcomeOf, after, events}
 use Rattle.run.specs.Demand3.{stateAfter, result, eventsOf, Touches}
 use Rattle.run.proofs.Does.{Fit, Does, Did, still, does}
 use Rattle.run.proofs.Steps.{step-did}
@@ -35,12 +35,12 @@ by-start key P f g = go (eqb (length key) 32) refl
     go false e = let h = eqb-false (length key) 32 e in subst (λ (r : Started). P (r .state)) (sym (start-refused key h)) (g h)
 
 module _ (w : ℕ) (tag : Seal → Entry → List ℕ) where
-  after-append : (s : State) (p q : List Lent) → after w tag s (p ++ q) ≡ after w tag (after w tag s p) q
+  after-append : (s : State) (p q : List Made) → after w tag s (p ++ q) ≡ after w tag (after w tag s p) q
   unfolding after
   after-append s [] q = refl
   after-append s (x ∷ p) q = after-append (outcomeOf w tag s (x .bytes) (x .call) .seen .state) p q
 
-  pub events-append : (s : State) (p q : List Lent) → events w tag s (p ++ q) ≡ events w tag s p ++ events w tag (after w tag s p) q
+  pub events-append : (s : State) (p q : List Made) → events w tag s (p ++ q) ≡ events w tag s p ++ events w tag (after w tag s p) q
   unfolding after events
   events-append s [] q = refl
   events-append s (x ∷ p) q =
@@ -50,17 +50,17 @@ module _ (w : ℕ) (tag : Seal → Entry → List ℕ) where
 
   module _ (key : List ℕ) where
     -- what a call did, and all that was done, written down
-    abbrev pub doneBy : List Lent → Lent → List Event
+    abbrev pub doneBy : List Made → Made → List Event
     doneBy run x = result w tag key run x .events
 
-    abbrev pub bagOf : List Lent → Bag
+    abbrev pub bagOf : List Made → Bag
     bagOf run = follow (empty 0) (eventsOf w tag key run)
 
     pub events-none : eventsOf w tag key [] ≡ []
     unfolding events
     events-none = refl
 
-    module _ (run : List Lent) (x : Lent) where
+    module _ (run : List Made) (x : Made) where
       pub state-last : stateAfter w tag key (run ++ (x ∷ [])) ≡ result w tag key run x .seen .state
       unfolding after
       state-last = after-append (startOf key .state) run (x ∷ [])
@@ -69,8 +69,8 @@ module _ (w : ℕ) (tag : Seal → Entry → List ℕ) where
       unfolding events
       events-last = events-append (startOf key .state) run (x ∷ []) ∙ ap (λ (es : List Event). eventsOf w tag key run ++ es) (append-nil (doneBy run x))
 
-    pub by-run : (P : List Lent → List Event → Type 0) → P [] [] → ((run : List Lent) (x : Lent) → P run (eventsOf w tag key run) → P (run ++ (x ∷ [])) (eventsOf w tag key run ++ doneBy run x))
-        → (run : List Lent) → P run (eventsOf w tag key run)
+    pub by-run : (P : List Made → List Event → Type 0) → P [] [] → ((run : List Made) (x : Made) → P run (eventsOf w tag key run) → P (run ++ (x ∷ [])) (eventsOf w tag key run ++ doneBy run x))
+        → (run : List Made) → P run (eventsOf w tag key run)
     by-run = by-calls doneBy (eventsOf w tag key) events-none events-last
 
     -- ---- what is known of a run's state s and of all that was done
@@ -100,7 +100,7 @@ module _ (w : ℕ) (tag : Seal → Entry → List ℕ) where
           follows = λ k. (subst (Follows tag (sealed key) (r .seen .state)) same (d .follows k), subst (Fit (r .seen .state)) same (d .fit k));
         }
 
-    pub invariant : (run : List Lent) → Invariant (stateAfter w tag key run) (eventsOf w tag key run)
+    pub invariant : (run : List Made) → Invariant (stateAfter w tag key run) (eventsOf w tag key run)
     unfolding after
     invariant =
         by-run (λ run all. Invariant (stateAfter w tag key run) all) begins
@@ -110,10 +110,10 @@ module _ (w : ℕ) (tag : Seal → Entry → List ℕ) where
         (goes-on s (x .bytes) (eventsOf w tag key run) (x .call) (result w tag key run x) i (step-did w tag (sealed key) s (x .bytes) (bagOf run) (i .follows) (x .call))))
 
     -- each call of a run shows what a call has to
-    pub run-did : (run : List Lent) (x : Lent) → Did w tag (sealed key) (stateAfter w tag key run) (x .bytes) (bagOf run) (x .call) (result w tag key run x)
+    pub run-did : (run : List Made) (x : Made) → Did w tag (sealed key) (stateAfter w tag key run) (x .bytes) (bagOf run) (x .call) (result w tag key run x)
     run-did run x = step-did w tag (sealed key) (stateAfter w tag key run) (x .bytes) (bagOf run) (invariant run .follows) (x .call)
 
     -- one that is not refused, and no look, count or lowest free, gets a state that is not closed
-    pub moves-does : (run : List Lent) (x : Lent) → Touches w tag key run x
+    pub moves-does : (run : List Made) (x : Made) → Touches w tag key run x
         → (stateAfter w tag key run .closed ≡ false) × Does w tag (sealed key) (stateAfter w tag key run) (x .bytes) (bagOf run) (x .call) (result w tag key run x)
     moves-does run x m = elim (run-did run x) [ still n ↦ absurd (n .idle (m .0) (m .1)) | does o y d ↦ (o, d) ]

@@ -77,16 +77,16 @@ module _ {X : Type 0} (does : List X → X → List Event) (eventsOf : List X �
 
   -- Of the calls that take or put (Moving), each is lent a store and leaves one. Where each that is lent a store that holds what is held takes what is held, and
   -- leaves one that holds what is held then, and where those that the latest left are lent again, every take takes what is held.
-  module _ (w : ℕ) (Moving : List X → X → Type 0) (lent : X → List ℕ) (left : List X → X → List ℕ)
+  module _ (w : ℕ) (Moving : List X → X → Type 0) (made : X → List ℕ) (left : List X → X → List ℕ)
       (moving : (run : List X) (x : X) → Moving run x ⊎ ((Moving run x → ⊥) × (does run x ≡ [])))
-      (honest : (run : List X) (x : X) → Moving run x → Holds w (bagAfter run) (lent x) → Right (bagAfter run) (does run x) × Holds w (follow (bagAfter run) (does run x)) (left run x)) where
+      (honest : (run : List X) (x : X) → Moving run x → Holds w (bagAfter run) (made x) → Right (bagAfter run) (does run x) × Holds w (follow (bagAfter run) (does run x)) (left run x)) where
     -- nothing is held, or the store that the latest of them left holds it
     abbrev pub Left : List X → List Event → Type 0
     Left run all = Bare (follow (empty 0) all) ⊎ ((l : Latest Moving run) × Holds w (follow (empty 0) all) (left (l .before) (l .call)))
 
     -- each is lent what is held, where the one before it left that
     abbrev pub LentAgain : List X → Type 0
-    LentAgain run = (before later : List X) (x : X) → run ≡ before ++ (x ∷ later) → Moving before x → Left before (eventsOf before) → Holds w (bagAfter before) (lent x)
+    LentAgain run = (before later : List X) (x : X) → run ≡ before ++ (x ∷ later) → Moving before x → Left before (eventsOf before) → Holds w (bagAfter before) (made x)
 
     pub lent-right : (run : List X) → LentAgain run → Right (empty 0) (eventsOf run) × Left run (eventsOf run)
     unfolding empty latest-here latest-keeps

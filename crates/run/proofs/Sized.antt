@@ -18,7 +18,7 @@ use Rattle.bag.specs.Following.{InCell, PutFits, Bytes, TakeFits}
 use Rattle.bag.proofs.Lists.{place-stays}
 use Rattle.bag.proofs.Along.{along-append, along-split}
 use Rattle.bag.proofs.Sizes.{below-bound}
-use Rattle.run.specs.Calls.{Lent}
+use Rattle.run.specs.Calls.{Made}
 use Rattle.run.specs.Demand3.{eventsOf}
 use Rattle.run.proofs.Does.{Room, still, does}
 use Rattle.run.proofs.FromStart.{doneBy, bagOf, by-run, run-did}
@@ -37,8 +37,8 @@ clock-fits w one b (put e ∷ es) h f = clock-fits w one (noted b (put e)) es (f
 clock-fits w one b (accepted ∷ es) h f = clock-fits w one (empty 1) es one (f .1)
 
 -- every lent store is bytes
-abbrev pub AllBytes : List Lent → Type 0
-AllBytes run = (before later : List Lent) (x : Lent) → run ≡ before ++ (x ∷ later) → Bytes (x .bytes)
+abbrev pub AllBytes : List Made → Type 0
+AllBytes run = (before later : List Made) (x : Made) → run ≡ before ++ (x ∷ later) → Bytes (x .bytes)
 
 module _ (w : ℕ) (tag : Seal → Entry → List ℕ) (key : List ℕ) where
   -- where each put fits, so does the clock
@@ -47,29 +47,29 @@ module _ (w : ℕ) (tag : Seal → Entry → List ℕ) (key : List ℕ) where
     unfolding empty
     room all h = let c = ceiling-one w one in (c, clock-fits w c (empty 0) all (omega arith) h)
 
-    puts-fit : (run : List Lent) → Along (PutFits w) (empty 0) (eventsOf w tag key run)
+    puts-fit : (run : List Made) → Along (PutFits w) (empty 0) (eventsOf w tag key run)
     puts-fit =
         by-run w tag key (λ run all. Along (PutFits w) (empty 0) all) tt
         (λ run x ih.
         along-append (PutFits w) (empty 0) (eventsOf w tag key run) (doneBy w tag key run x) ih
         (elim (run-did w tag key run x) [ still n ↦ subst (Along (PutFits w) (bagOf w tag key run)) (sym (n .events)) tt | does o y d ↦ d .putFits (room (eventsOf w tag key run) ih) ]))
 
-    pub run-room : (run : List Lent) → Room w (bagOf w tag key run)
+    pub run-room : (run : List Made) → Room w (bagOf w tag key run)
     run-room run = room (eventsOf w tag key run) (puts-fit run)
 
     -- each entry put, whatever is lent
-    pub put-fits : (run : List Lent) (p q : List Event) (e : Entry) → eventsOf w tag key run ≡ p ++ (put e ∷ q) → InCell w e
+    pub put-fits : (run : List Made) (p q : List Event) (e : Entry) → eventsOf w tag key run ≡ p ++ (put e ∷ q) → InCell w e
     put-fits run p q e k = along-split (PutFits w) (empty 0) p (put e ∷ q) (subst (Along (PutFits w) (empty 0)) k (puts-fit run)) .1 .0
 
   -- each entry taken, where every lent store is bytes
-  takes-fit : (run : List Lent) → AllBytes run → Along (TakeFits w) (empty 0) (eventsOf w tag key run)
+  takes-fit : (run : List Made) → AllBytes run → Along (TakeFits w) (empty 0) (eventsOf w tag key run)
   takes-fit =
       by-run w tag key (λ run all. AllBytes run → Along (TakeFits w) (empty 0) all) (λ h. tt)
       (λ run x ih h.
       along-append (TakeFits w) (empty 0) (eventsOf w tag key run) (doneBy w tag key run x) (ih (λ before later y e. h before (later ++ (x ∷ [])) y (place-stays run before y later (x ∷ []) e)))
       (elim (run-did w tag key run x) [ still n ↦ subst (Along (TakeFits w) (bagOf w tag key run)) (sym (n .events)) tt | does o y d ↦ d .takeFits (h run [] x refl) ]))
 
-  module _ (one : 1 ≤ w) (run : List Lent) (h : AllBytes run) where
+  module _ (one : 1 ≤ w) (run : List Made) (h : AllBytes run) where
     pub entries-sized : (p q : List Event) (e : Entry) → (eventsOf w tag key run ≡ p ++ (put e ∷ q)) ⊎ (eventsOf w tag key run ≡ p ++ (took e ∷ q)) → Fits w e
     unfolding addresses
     entries-sized p q e (inl k) =

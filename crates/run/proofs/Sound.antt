@@ -17,7 +17,7 @@ use Rattle.bag.specs.Claims.{Collides, right}
 use Rattle.bag.proofs.Along.{along-append, along-map}
 use Rattle.bag.proofs.Orderly.{empty-orderly}
 use Rattle.bag.proofs.Sound.{sound-accepted}
-use Rattle.run.specs.Calls.{check, Lent, lent, events}
+use Rattle.run.specs.Calls.{check, Made, made, events}
 use Rattle.run.specs.Demand3.{Differ, NoTwoAlike, putIn, takenIn, Since, stateAfter, eventsOf, EachLoad, Collision, LastAccepts}
 use Rattle.run.proofs.FromStart.{events-last, invariant}
 use Rattle.run.proofs.Loads.{loads-right}
@@ -27,7 +27,7 @@ use Rattle.run.proofs.Accepted.{accepts-gives, AcceptedCheck, accepted-
 module _ (w : ℕ) (tag : Seal → Entry → List ℕ) (key : List ℕ) where
   -- ---- collisions
 
-  collision : (run : List Lent) → Collides (tag (sealed key)) (empty 0) (eventsOf w tag key run) → Collision w tag key run
+  collision : (run : List Made) → Collides (tag (sealed key)) (empty 0) (eventsOf w tag key run) → Collision w tag key run
   collision run c =
       record {
         before = k .before;
@@ -56,7 +56,7 @@ module _ (w : ℕ) (tag : Seal → Entry → List ℕ) (key : List ℕ) where
 
   -- ---- the first half
 
-  pub sound : (run : List Lent) → LastAccepts w tag key run → EachLoad w tag key run ⊎ Collision w tag key run
+  pub sound : (run : List Made) → LastAccepts w tag key run → EachLoad w tag key run ⊎ Collision w tag key run
   unfolding puts empty noted acceptance
   sound run (before, m, place, a) =
       elim (sound-accepted (tag (sealed key)) (empty 0) past (puts w s m) (empty-orderly 0) (right refl tt) (subst (Along (May (tag (sealed key))) (empty 0)) all (invariant w tag key run .lawful))) [
@@ -73,5 +73,5 @@ module _ (w : ℕ) (tag : Seal → Entry → List ℕ) (key : List ℕ) where
 
       all : eventsOf w tag key run ≡ past ++ (accepted ∷ puts w s m)
       all =
-          ap (eventsOf w tag key) place ∙ events-last w tag key before (lent check m) ∙ ap (λ (r : Outcome). eventsOf w tag key before ++ r .events) (accepts-gives w tag s m a)
+          ap (eventsOf w tag key) place ∙ events-last w tag key before (made check m) ∙ ap (λ (r : Outcome). eventsOf w tag key before ++ r .events) (accepts-gives w tag s m a)
           ∙ sym (append-assoc (eventsOf w tag key before) (takes w s m) (accepted ∷ puts w s m))

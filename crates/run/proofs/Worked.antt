@@ -10,14 +10,14 @@ use Rattle.state.specs.Marks.{used, marked, usedBelow, inUse}
 use Rattle.state.specs.Cells.{Entry, valueAt, stampAt, entryAt, writeCell, writeEntry}
 use Rattle.state.specs.Multiset.{emptyHash, withTag, sameHash}
 use Rattle.state.specs.Start.{fresh, startOf}
-use Rattle.state.specs.TakePut.{withMarks, shut, next, takeEntry, putEntry}
+use Rattle.state.specs.TakePut.{withMarks, close, next, takeEntry, putEntry}
 use Rattle.state.specs.Access.{addRows, exchangeRows, call, added, addOf, loaded, loadOf, stored, storeOf}
 use Rattle.state.specs.Check.{checkRows, taken, opening, reput, opened, agrees, takes, puts, writeAll, takeAll, putAll, acceptance, rejection, checkOf}
 use Rattle.state.specs.declared.Seal.{Seal}
 use Rattle.state.specs.declared.State.{State}
 use Rattle.state.specs.declared.Verdict.{Verdict}
 use Rattle.state.specs.declared.Verdict.the-variants.{Accept, Reject, Nothing}
-use Rattle.run.specs.Calls.{Call, add, load, store, check, Lent, lent, outcomeOf}
+use Rattle.run.specs.Calls.{Call, add, load, store, check, Made, made, outcomeOf}
 
 toy : Seal → Entry → List ℕ
 toy k e = (e .address + e .stamp + getD (e .value) 0 0) ∷ e .stamp ∷ replicate 30 1
@@ -34,9 +34,9 @@ record Line : Type 0 where
 abbrev line : Call → Line
 line c = record { spoil = λ m. m; call = c }
 
-lend : State → List ℕ → List Line → List Lent
+lend : State → List ℕ → List Line → List Made
 lend s m [] = []
-lend s m (x ∷ xs) = let r = outcomeOf width toy s (x .spoil m) (x .call) .seen in lent (x .call) (x .spoil m) ∷ lend (r .state) (r .store) xs
+lend s m (x ∷ xs) = let r = outcomeOf width toy s (x .spoil m) (x .call) .seen in made (x .call) (x .spoil m) ∷ lend (r .state) (r .store) xs
 
 -- what a run replies: the number, the verdict, and the first byte of the out buffer
 record Reply : Type 0 where
@@ -47,7 +47,7 @@ record Reply : Type 0 where
 abbrev reply : ℕ → Verdict → List ℕ → Reply
 reply n v o = record { number = n; verdict = v; out = o }
 
-replies : State → List Lent → List Reply
+replies : State → List Made → List Reply
 replies s [] = []
 replies s (x ∷ xs) =
     let r = outcomeOf width toy s (x .bytes) (x .call) .seen in
@@ -71,5 +71,5 @@ lied =
 
 worked : (session honest ≡ reply 0 Nothing [] ∷ reply 0 Nothing [] ∷ reply 0 Nothing (0x42 ∷ []) ∷ reply 0 Accept [] ∷ reply 0 Nothing (0x42 ∷ []) ∷ reply 0 Accept [] ∷ [])
     × (session lied ≡ reply 0 Nothing [] ∷ reply 0 Nothing [] ∷ reply 0 Nothing (0x42 ∷ []) ∷ reply 0 Nothing (0x41 ∷ []) ∷ reply 0 Reject [] ∷ reply 7 Nothing (7 ∷ []) ∷ [])
-unfolding honest lied session begin lend replies value toy outcomeOf total join split number bytes xor keySize addresses valueSize cellSize storeSize ceiling used marked valueAt stampAt entryAt writeCell writeEntry emptyHash withTag same sameHash fresh startOf withMarks shut next takeEntry putEntry addRows exchangeRows call added addOf loaded loadOf stored storeOf checkRows usedBelow inUse taken opening reput opened agrees takes puts writeAll takeAll putAll acceptance rejection checkOf
+unfolding honest lied session begin lend replies value toy outcomeOf total join split number bytes xor keySize addresses valueSize cellSize storeSize ceiling used marked valueAt stampAt entryAt writeCell writeEntry emptyHash withTag same sameHash fresh startOf withMarks close next takeEntry putEntry addRows exchangeRows call added addOf loaded loadOf stored storeOf checkRows usedBelow inUse taken opening reput opened agrees takes puts writeAll takeAll putAll acceptance rejection checkOf
 worked = (refl, refl)

@@ -22,13 +22,13 @@ pub data Call : Type 0 where
   count : Call
   lowest : Call
 
--- a call with the bytes that it is lent as the store: any bytes, and any number of them
-pub record Lent : Type 0 where
+-- a call as it is made, with the bytes that it is lent as the store: any bytes, and any number of them
+pub record Made : Type 0 where
   pub call : Call
   pub bytes : List ℕ
 
-abbrev pub lent : Call → List ℕ → Lent
-lent c m = record { call = c; bytes = m }
+abbrev pub made : Call → List ℕ → Made
+made c m = record { call = c; bytes = m }
 
 -- does the call take or put; look, count and lowest free do not
 abbrev pub touches : Call → Bool
@@ -58,10 +58,10 @@ module _ (w : ℕ) (tag : Seal → Entry → List ℕ) where
   outcomeOf s m lowest = idle s m
 
   -- each call gets the state that the call before gave back: the state after some calls, and all that they did, in order
-  unfoldable pub after : State → List Lent → State
+  unfoldable pub after : State → List Made → State
   after s [] = s
   after s (x ∷ xs) = after (outcomeOf s (x .bytes) (x .call) .seen .state) xs
 
-  unfoldable pub events : State → List Lent → List Event
+  unfoldable pub events : State → List Made → List Event
   events s [] = []
   events s (x ∷ xs) = let r = outcomeOf s (x .bytes) (x .call) in r .events ++ events (r .seen .state) xs

@@ -28,7 +28,7 @@ use Rattle.state.specs.Check.{takes}
 use Rattle.state.specs.declared.Seal.{Seal}
 use Rattle.state.specs.declared.State.{State}
 use Rattle.state.specs.declared.Verdict.the-variants.{Accept}
-use Rattle.run.specs.Calls.{Call, add, load, store, check, Lent, lent, touches, outcomeOf, after, events}
+use Rattle.run.specs.Calls.{Call, add, load, store, check, Made, made, touches, outcomeOf, after, events}
 
 -- ---- multisets, by counts
 
@@ -80,45 +80,45 @@ Sets c a v = (c ≡ add a v) ⊎ (c ≡ store a v)
 
 module _ (w : ℕ) (tag : Seal → Entry → List ℕ) (key : List ℕ) where
   -- the state after a run, what a call that follows it gives, and all that a run did, in order
-  abbrev pub stateAfter : List Lent → State
+  abbrev pub stateAfter : List Made → State
   stateAfter run = after w tag (startOf key .state) run
 
-  abbrev pub result : List Lent → Lent → Outcome
+  abbrev pub result : List Made → Made → Outcome
   result before x = outcomeOf w tag (stateAfter before) (x .bytes) (x .call)
 
-  abbrev pub eventsOf : List Lent → List Event
+  abbrev pub eventsOf : List Made → List Event
   eventsOf run = events w tag (startOf key .state) run
 
   -- the call is not refused
-  abbrev pub Done : List Lent → Lent → Type 0
+  abbrev pub Done : List Made → Made → Type 0
   Done before x = result before x .seen .number ≡ 0
 
   -- a check accepts
-  abbrev pub Accepts : List Lent → List ℕ → Type 0
-  Accepts before m = result before (lent check m) .seen .verdict ≡ Accept
+  abbrev pub Accepts : List Made → List ℕ → Type 0
+  Accepts before m = result before (made check m) .seen .verdict ≡ Accept
 
   -- ---- first half
 
   -- a call that adds or stores at a, done
-  abbrev pub SetAt : ℕ → List Lent → Lent → Type 0
+  abbrev pub SetAt : ℕ → List Made → Made → Type 0
   SetAt a before x = Done before x × (v : List ℕ) × Sets (x .call) a v
 
   -- v is the value last added or stored at a: the argument of the latest such call
-  abbrev pub LastSet : List Lent → ℕ → List ℕ → Type 0
+  abbrev pub LastSet : List Made → ℕ → List ℕ → Type 0
   LastSet run a v = (l : Latest (SetAt a) run) × Sets (l .call .call) a v
 
   -- each load at its place, where it is answered, gave the value last set at its address by the calls before it
-  abbrev pub EachLoad : List Lent → Type 0
+  abbrev pub EachLoad : List Made → Type 0
   EachLoad run =
-      (before later : List Lent) (a : ℕ) (o m : List ℕ) → run ≡ before ++ (lent (load a o) m ∷ later)
-      → Done before (lent (load a o) m) → LastSet before a (result before (lent (load a o) m) .seen .out)
+      (before later : List Made) (a : ℕ) (o m : List ℕ) → run ≡ before ++ (made (load a o) m ∷ later)
+      → Done before (made (load a o) m) → LastSet before a (result before (made (load a o) m) .seen .out)
 
   -- for some check at its place, which accepts: what was put and taken in its period, its own takes included
-  pub record Collision (run : List Lent) : Type 0 where
-    pub before : List Lent
-    pub later : List Lent
+  pub record Collision (run : List Made) : Type 0 where
+    pub before : List Made
+    pub later : List Made
     pub bytes : List ℕ
-    pub place : run ≡ before ++ (lent check bytes ∷ later)
+    pub place : run ≡ before ++ (made check bytes ∷ later)
     pub accepts : Accepts before bytes
     pub period : List Event
     pub since : Since (eventsOf before ++ takes w (stateAfter before) bytes) period
@@ -127,28 +127,28 @@ module _ (w : ℕ) (tag : Seal → Entry → List ℕ) (key : List ℕ) where
     pub equal : hash (tag (sealed key)) (putIn period) ≡ hash (tag (sealed key)) (takenIn period)
 
   -- the last call is a check that accepts
-  abbrev pub LastAccepts : List Lent → Type 0
-  LastAccepts run = (before : List Lent) × (m : List ℕ) × (run ≡ before ++ (lent check m ∷ [])) × Accepts before m
+  abbrev pub LastAccepts : List Made → Type 0
+  LastAccepts run = (before : List Made) × (m : List ℕ) × (run ≡ before ++ (made check m ∷ [])) × Accepts before m
 
   -- ---- second half
 
   -- a call that is not refused, and no look, count or lowest free
-  abbrev pub Touches : List Lent → Lent → Type 0
+  abbrev pub Touches : List Made → Made → Type 0
   Touches before x = Done before x × (touches (x .call) ≡ true)
 
   -- each cell in use reaches each such call as the latest such call before it left it; all other bytes may be any
-  abbrev pub Unaltered : List Lent → Type 0
+  abbrev pub Unaltered : List Made → Type 0
   Unaltered run =
-      (before later : List Lent) (x : Lent) → run ≡ before ++ (x ∷ later) → Touches before x → (l : Latest Touches before)
+      (before later : List Made) (x : Made) → run ≡ before ++ (x ∷ later) → Touches before x → (l : Latest Touches before)
       → (a : ℕ) → used (stateAfter before .marks) a ≡ true → entryAt w (x .bytes) a ≡ entryAt w (result (l .before) (l .call) .seen .store) a
 
-  abbrev pub EachCheck : List Lent → Type 0
+  abbrev pub EachCheck : List Made → Type 0
   EachCheck run =
-      (before later : List Lent) (m : List ℕ) → run ≡ before ++ (lent check m ∷ later) → Done before (lent check m) → Accepts before m
+      (before later : List Made) (m : List ℕ) → run ≡ before ++ (made check m ∷ later) → Done before (made check m) → Accepts before m
 
 -- ---- demand 3, for a stamp of w bytes and any tag
 
 abbrev pub Demand3 : ℕ → (Seal → Entry → List ℕ) → Type 0
 Demand3 w tag =
-    (key : List ℕ) (run : List Lent)
+    (key : List ℕ) (run : List Made)
     → (LastAccepts w tag key run → EachLoad w tag key run ⊎ Collision w tag key run) × (Unaltered w tag key run → EachCheck w tag key run)

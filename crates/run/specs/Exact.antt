@@ -21,7 +21,7 @@ use Rattle.state.specs.TakePut.{Event, took, put, accepted}
 use Rattle.state.specs.Check.{takes}
 use Rattle.state.specs.declared.Seal.{Seal}
 use Rattle.state.specs.declared.State.{State}
-use Rattle.run.specs.Calls.{check, Lent, lent}
+use Rattle.run.specs.Calls.{check, Made, made}
 use Rattle.run.specs.Demand3.{putIn, takenIn, Since, stateAfter, eventsOf, Done, Accepts}
 
 -- the clock after an event, c being the clock before it; and the clock after all that was done since the start
@@ -56,11 +56,11 @@ pub record Tells (tag : Seal → Entry → List ℕ) (k : Seal) (s : State) (all
 module _ (w : ℕ) (tag : Seal → Entry → List ℕ) where
   abbrev pub StateExact : Type 0
   StateExact =
-      (key : List ℕ) (run : List Lent) → stateAfter w tag key run .closed ≡ false
+      (key : List ℕ) (run : List Made) → stateAfter w tag key run .closed ≡ false
       → (period : List Event) (since : Since (eventsOf w tag key run) period) → Tells tag (sealed key) (stateAfter w tag key run) (eventsOf w tag key run) period since
 
   abbrev pub CheckExact : Type 0
   CheckExact =
-      (key : List ℕ) (before : List Lent) (m : List ℕ) → Done w tag key before (lent check m)
+      (key : List ℕ) (before : List Made) (m : List ℕ) → Done w tag key before (made check m)
       → (period : List Event) (since : Since (eventsOf w tag key before ++ takes w (stateAfter w tag key before) m) period)
       → Accepts w tag key before m ↔ ((hash (tag (sealed key)) (putIn period) ≡ hash (tag (sealed key)) (takenIn period)) × NoneAhead (since .past) period)

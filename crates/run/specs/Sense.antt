@@ -18,22 +18,22 @@ use Prim.Native.Nat.{ℕ}
 use Rattle.state.specs.Marks.{used}
 use Rattle.state.specs.Cells.{Entry, entryAt}
 use Rattle.state.specs.declared.Seal.{Seal}
-use Rattle.run.specs.Calls.{Call, Lent, lent}
+use Rattle.run.specs.Calls.{Call, Made, made}
 use Rattle.run.specs.Demand3.{stateAfter, result, Done, LastSet, Collision, Unaltered}
 
 abbrev pub LastOne : ℕ → (Seal → Entry → List ℕ) → Type 0
-LastOne w tag = (key : List ℕ) (run : List Lent) (a : ℕ) (v u : List ℕ) → LastSet w tag key run a v → LastSet w tag key run a u → v ≡ u
+LastOne w tag = (key : List ℕ) (run : List Made) (a : ℕ) (v u : List ℕ) → LastSet w tag key run a v → LastSet w tag key run a u → v ≡ u
 
 abbrev pub HonestNoCollision : ℕ → (Seal → Entry → List ℕ) → Type 0
-HonestNoCollision w tag = (key : List ℕ) (run : List Lent) → Unaltered w tag key run → Collision w tag key run → ⊥
+HonestNoCollision w tag = (key : List ℕ) (run : List Made) → Unaltered w tag key run → Collision w tag key run → ⊥
 
 abbrev pub UnusedMayChange : ℕ → (Seal → Entry → List ℕ) → Type 0
 UnusedMayChange w tag =
-    (key : List ℕ) (run : List Lent) (c : Call) (m n : List ℕ) → Done w tag key run (lent c m)
+    (key : List ℕ) (run : List Made) (c : Call) (m n : List ℕ) → Done w tag key run (made c m)
     → ((a : ℕ) → used (stateAfter w tag key run .marks) a ≡ true → entryAt w n a ≡ entryAt w m a)
-    → Unaltered w tag key (run ++ (lent c m ∷ [])) → Unaltered w tag key (run ++ (lent c n ∷ []))
+    → Unaltered w tag key (run ++ (made c m ∷ [])) → Unaltered w tag key (run ++ (made c n ∷ []))
 
 abbrev pub HandedBack : ℕ → (Seal → Entry → List ℕ) → Type 0
 HandedBack w tag =
-    (key : List ℕ) (run : List Lent)
-    → ((before later : List Lent) (x y : Lent) → run ≡ before ++ (x ∷ (y ∷ later)) → y .bytes ≡ result w tag key before x .seen .store) → Unaltered w tag key run
+    (key : List ℕ) (run : List Made)
+    → ((before later : List Made) (x y : Made) → run ≡ before ++ (x ∷ (y ∷ later)) → y .bytes ≡ result w tag key before x .seen .store) → Unaltered w tag key run

@@ -16,7 +16,7 @@ use Rattle.state.specs.Sizes.{addresses, valueSize, cellSize, storeSize}
 use Rattle.state.specs.Marks.{used, inUse}
 use Rattle.state.specs.Cells.{Entry, entry, valueAt, stampAt, entryAt, writeCell, writeEntry}
 use Rattle.state.specs.Multiset.{emptyHash, withTag}
-use Rattle.state.specs.TakePut.{Seen, seen, Outcome, outcome, withMarks, shut, next, takeEntry, putEntry}
+use Rattle.state.specs.TakePut.{Seen, seen, Outcome, outcome, withMarks, close, next, takeEntry, putEntry}
 use Rattle.state.specs.Access.{addRows, exchangeRows, removeRows, call, added, loaded, stored, removed, addOf, loadOf, storeOf, removeOf}
 use Rattle.state.specs.Check.{checkRows, taken, opening, reput, opened, agrees, takeAll, putAll, acceptance, rejection, checkOf}
 use Rattle.state.specs.Calls.{calls}
@@ -248,7 +248,7 @@ module _ (w : ℕ) (tag : Seal → Entry → List ℕ) where
     }
 
     rejected : Rejected w tag s m (rejection w tag s m .seen)
-    unfolding rejection shut
+    unfolding rejection close
     rejected = record { seal = refl; put = refl; take = refl; clock = refl; fault = refl; closed = refl; marks = refl; store = refl }
 
     abbrev Checked : Seen → Type 0

@@ -14,7 +14,7 @@ use Rattle.octets.specs.Places.{xor, same}
 use Rattle.octets.proofs.Same.{both, same-refl, same-eq}
 use Rattle.state.specs.Cells.{Entry}
 use Rattle.state.specs.Multiset.{xorAll, hash, emptyHash, withTag, sameHash}
-use Rattle.state.specs.Counts.{sameEntry, bit, times}
+use Rattle.state.specs.Counts.{sameEntry, once, times}
 use Rattle.state.specs.declared.Hash.{Hash}
 
 -- ---- the tests of equality
@@ -93,13 +93,13 @@ withTag-swap h a b = λ i. record { tag = xor-swap (h .tag) a b i; number = ((h 
 -- ---- counts
 
 -- one entry taken out of a list
-times-out : (c : Entry) (p : List Entry) (e : Entry) (q : List Entry) → times c (p ++ (e ∷ q)) ≡ bit (sameEntry c e) + times c (p ++ q)
+times-out : (c : Entry) (p : List Entry) (e : Entry) (q : List Entry) → times c (p ++ (e ∷ q)) ≡ once (sameEntry c e) + times c (p ++ q)
 unfolding times
 times-out c [] e q = refl
 times-out c (d ∷ p) e q = omega (arith, times-out c p e q)
 
-pub times-last : (c : Entry) (p : List Entry) (e : Entry) → times c (p ++ (e ∷ [])) ≡ bit (sameEntry c e) + times c p
-times-last c p e = times-out c p e [] ∙ ap (λ (l : List Entry). bit (sameEntry c e) + times c l) (append-nil p)
+pub times-last : (c : Entry) (p : List Entry) (e : Entry) → times c (p ++ (e ∷ [])) ≡ once (sameEntry c e) + times c p
+times-last c p e = times-out c p e [] ∙ ap (λ (l : List Entry). once (sameEntry c e) + times c l) (append-nil p)
 
 pub times-self : (e : Entry) (p : List Entry) → times e (p ++ (e ∷ [])) ≡ 1 + times e p
 times-self e p = times-last e p e ∙ rw (sameEntry-refl e)
@@ -113,7 +113,7 @@ find e (d ∷ l) h = go (sameEntry e d) refl (find e l)
     go : (b : Bool) → sameEntry e d ≡ b → (0 < times e l → (p : List Entry) × (q : List Entry) × (l ≡ p ++ (e ∷ q))) → (p : List Entry) × (q : List Entry) × (d ∷ l ≡ p ++ (e ∷ q))
     go true k f = ([], l, ap (λ (y : Entry). y ∷ l) (sym (sameEntry-true e d k)))
     go false k f =
-        let z : bit (sameEntry e d) ≡ 0 = ap bit k in
+        let z : once (sameEntry e d) ≡ 0 = ap once k in
         let w = f (omega arith) in
         (d ∷ (w .0), w .1, ap (λ (y : List Entry). d ∷ y) (w .2))
 
@@ -143,9 +143,9 @@ module _ (tag : Entry → List ℕ) where
   pub same-counts : (p t : List Entry) → ((e : Entry) → times e p ≡ times e t) → hash tag p ≡ hash tag t
   unfolding times
   same-counts [] [] f = refl
-  same-counts [] (e ∷ t) f = let one : bit (sameEntry e e) ≡ 1 = ap bit (sameEntry-refl e) in absurd (omega (arith, f e))
+  same-counts [] (e ∷ t) f = let one : once (sameEntry e e) ≡ 1 = ap once (sameEntry-refl e) in absurd (omega (arith, f e))
   same-counts (e ∷ p) t f =
-      let one : bit (sameEntry e e) ≡ 1 = ap bit (sameEntry-refl e) in
+      let one : once (sameEntry e e) ≡ 1 = ap once (sameEntry-refl e) in
       let w = find e t (omega (arith, f e)) in
       let ih = same-counts p (w .0 ++ w .1) (λ c. omega (arith, f c, ap (times c) (w .2), times-out c (w .0) e (w .1))) in
       hash-cons e p ∙ ap (λ (h : Hash). withTag h (tag e)) ih ∙ sym (hash-out (w .0) e (w .1)) ∙ ap (hash tag) (sym (w .2))

@@ -8,7 +8,7 @@ use Rattle.refusal.specs.Refusal.{Row}
 use Rattle.state.specs.Marks.{inUse}
 use Rattle.state.specs.Cells.{Entry, entry, valueAt, entryAt, writeEntry}
 use Rattle.state.specs.Multiset.{emptyHash, sameHash}
-use Rattle.state.specs.TakePut.{Event, took, put, accepted, seen, Outcome, outcome, shut, takeEntry, putEntry}
+use Rattle.state.specs.TakePut.{Event, took, put, accepted, seen, Outcome, outcome, close, takeEntry, putEntry}
 use Rattle.state.specs.Access.{closedRow, storeRow, call}
 use Rattle.state.specs.declared.Seal.{Seal}
 use Rattle.state.specs.declared.State.{State}
@@ -88,7 +88,7 @@ module _ (w : ℕ) (tag : Seal → Entry → List ℕ) where
 
   -- rejected: the state given, closed, and the store as it was
   unfoldable pub rejection : State → List ℕ → Outcome
-  rejection s m = outcome (seen 0 Reject (shut s) m []) (takes w s m)
+  rejection s m = outcome (seen 0 Reject (close s) m []) (takes w s m)
 
   unfoldable pub checkOf : State → List ℕ → Outcome
   checkOf s m = call (checkRows w s m) s m [] (cond (agrees (takeAll s m)) (acceptance s m) (rejection s m))

@@ -12,10 +12,10 @@ unfoldable pub sameEntry : Entry → Entry → Bool
 sameEntry d e = eqb (d .address) (e .address) && (same (d .value) (e .value) && eqb (d .stamp) (e .stamp))
 
 -- how often e is among these
-abbrev pub bit : Bool → ℕ
-bit true = 1
-bit false = 0
+abbrev pub once : Bool → ℕ
+once true = 1
+once false = 0
 
 unfoldable pub times : Entry → List Entry → ℕ
 times e [] = 0
-times e (d ∷ ds) = bit (sameEntry e d) + times e ds
+times e (d ∷ ds) = once (sameEntry e d) + times e ds

@@ -40,8 +40,8 @@ withMarks s ws =
     record { seal = s .seal; put = s .put; take = s .take; clock = s .clock; fault = s .fault; closed = s .closed; marks = ws }
 
 -- the state, closed
-unfoldable pub shut : State → State
-shut s =
+unfoldable pub close : State → State
+close s =
     record { seal = s .seal; put = s .put; take = s .take; clock = s .clock; fault = s .fault; closed = true; marks = s .marks }
 
 -- the entry that a put of v at a makes: its stamp is the clock, raised by 1

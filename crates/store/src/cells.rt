@@ -4,14 +4,14 @@ ghost use mathlib.Core.Path.{_≡_};
 ghost use Prim.Native.Nat.{_*_, _<_};
 ghost use lib.ListN.{length};
 ghost use denote.Ref.{ptr};
-ghost use Rattle.lent.specs.Lent.{place};
+ghost use Rattle.lent.specs.Lent.{lies};
 ghost use Rattle.state.specs.Sizes.{width, addresses, cellSize, storeSize};
 ghost use Rattle.state.specs.Cells.{valueAt, stampAt, writeCell};
 
 // The part of the store that is an address's value.
 pub fn value_part(store: &[u8], a: usize) -> &[u8]
     requires { ⌜ (length (now store) ≡ storeSize width) × (a < addresses) ⌝ }
-    ensures { λ r. ⌜ (now r ≡ valueAt width (now (store .entry)) a) × (ptr r ≡ place (store .entry) (cellSize width * a)) ⌝ }
+    ensures { λ r. ⌜ (now r ≡ valueAt width (now (store .entry)) a) × (ptr r ≡ lies (store .entry) (cellSize width * a)) ⌝ }
 {
     entries::value_part(store, a)
 }

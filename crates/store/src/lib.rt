@@ -12,7 +12,7 @@ use state::Verdict;
 ghost use mathlib.Core.Path.{_≡_};
 ghost use mathlib.Core.List.{[]};
 ghost use denote.Ref.{ptr};
-ghost use Rattle.lent.specs.Lent.{place};
+ghost use Rattle.lent.specs.Lent.{lies};
 ghost use Rattle.state.specs.Sizes.{width};
 ghost use Rattle.state.specs.Marks.{countOf};
 ghost use Rattle.state.specs.TakePut.{seen};
@@ -98,13 +98,13 @@ pub fn check(s: State, store: &mut [u8]) -> Checked
     Checked {
         number: 0,
         verdict: Verdict::Reject,
-        state: periods::shut(s),
+        state: periods::close(s),
     }
 }
 
 // The value's bytes in the lent store itself; no bytes where the store's size or the address is refused.
 pub fn look(store: &[u8], a: usize) -> &[u8]
-    ensures { λ r. ⌜ (now r ≡ lookOf width (now (store .entry)) a) × (ptr r ≡ place (store .entry) (lookFrom width (now (store .entry)) a)) ⌝ }
+    ensures { λ r. ⌜ (now r ≡ lookOf width (now (store .entry)) a) × (ptr r ≡ lies (store .entry) (lookFrom width (now (store .entry)) a)) ⌝ }
 {
     if numbers::look(store, a) == 0 {
         return cells::value_part(store, a);

@@ -53,7 +53,7 @@ returns-3 c =
     let x = b .before .before .before .args in
     let e : agrees (takeEach width tag (x .s .marks) (x .s) (x .store .now)) ≡ false = sym (ap agrees (a .before .take-each .ensures)) ∙ sym (a .agrees .ensures) ∙ c .before .if2 .left in
     rw (call-done _ (x .s) (x .store .now) _ _ (sym (b .check .ensures) ∙ d .if1 .left), e)
-    (ap (λ s. seen 0 Reject s (x .store .now) _) (c .shut .ensures))
+    (ap (λ s. seen 0 Reject s (x .store .now) _) (c .close .ensures))
 
 pub check-spec : {M : Type 1} → statement M
 check-spec =
