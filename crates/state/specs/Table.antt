@@ -23,7 +23,7 @@ pub record Answers (cases : List Case) (x : Seen) (s : State) (m o : List ℕ) :
   pub number : FirstOf cases (x .number)
   pub unchanged : x .number ≢ 0 → (x .state ≡ s) × (x .store ≡ m) × (x .out ≡ o) × (x .verdict ≡ Nothing)
 
--- the hash of nothing, and the state of a start: closed and of zeros where the start is refused
+-- the hash of nothing
 abbrev pub zeroHash : Hash
 zeroHash = record { tag = replicate 32 0; number = 0 }
 
