@@ -58,7 +58,7 @@ def main():
     wrong = [f"docs/TIGHTNESS.md has a row of {path}, which is no public function" for path, *_ in rows if path not in public]
     for path, tells in sorted(public.items()):
         crate, *inner = path.split("::")
-        file = "Exports" if crate == "exports" else "Outcomes"
+        file = "Exports" if crate in ("held", "exports") else "Outcomes"
         names, fields = held[file]
         short = [short for whole, short in names if whole == ".".join((crate, "proofs", *inner))]
         forms = PART if path in PARTS else LENT if tells is None else TIGHT

@@ -1,4 +1,4 @@
-/* A value added, loaded and checked; and a mirror that goes back to an older cell. docs/CALLING.md, "An example". */
+/* A value added, loaded and checked; a mirror that goes back to an older cell; and one that makes up a stamp. docs/CALLING.md, "An example". */
 #include <stdio.h>
 #include <string.h>
 
@@ -6,8 +6,14 @@
 
 static uint8_t mirror[PINTLECUP_STORE_BYTES];
 
-static const char *said(uint8_t answer) {
-    return answer == PINTLECUP_DONE ? "accept" : answer == PINTLECUP_REJECTED ? "reject" : "nothing";
+static void check(pintlecup_state *state) {
+    size_t address = 0;
+    switch (pintlecup_check(state, mirror, sizeof mirror, &address)) {
+    case PINTLECUP_DONE: printf("check accept\n"); break;
+    case PINTLECUP_REJECTED_STAMP: printf("check reject stamp %zu\n", address); break;
+    case PINTLECUP_REJECTED_TAG: printf("check reject tag\n"); break;
+    default: printf("check nothing\n");
+    }
 }
 
 int main(void) {
@@ -21,7 +27,7 @@ int main(void) {
     uint8_t value[PINTLECUP_VALUE_BYTES];
     printf("pack %d\n", pintlecup_pack(&filter, value, sizeof value));
 
-    size_t address;
+    size_t address = 0;
     printf("lowest free %d", pintlecup_lowest_free(&state, &address));
     printf(", at %zu\n", address);
     printf("add %d\n", pintlecup_add(&state, mirror, sizeof mirror, address, value, sizeof value));
@@ -29,7 +35,7 @@ int main(void) {
 
     uint8_t out[PINTLECUP_VALUE_BYTES];
     printf("load %d\n", pintlecup_load(&state, mirror, sizeof mirror, address, out, sizeof out));
-    printf("check %s\n", said(pintlecup_check(&state, mirror, sizeof mirror)));
+    check(&state);
 
     pintlecup_filter loaded;
     printf("unpack %d", pintlecup_unpack(out, sizeof out, &loaded));
@@ -45,7 +51,14 @@ int main(void) {
     printf("load %d\n", pintlecup_load(&state, mirror, sizeof mirror, address, out, sizeof out));
     printf("unpack %d", pintlecup_unpack(out, sizeof out, &loaded));
     printf(", %s\n", pintlecup_compare(&filter, &loaded) == PINTLECUP_BACK ? "back" : "forward");
-    printf("check %s\n", said(pintlecup_check(&state, mirror, sizeof mirror)));
+    check(&state);
     printf("load %d\n", pintlecup_load(&state, mirror, sizeof mirror, address, out, sizeof out));
+
+    /* a new start, and a mirror that hands out a stamp which is yet to come */
+    printf("start %d\n", pintlecup_start(&state, key, sizeof key));
+    printf("add %d\n", pintlecup_add(&state, mirror, sizeof mirror, 5, value, sizeof value));
+    mirror[PINTLECUP_CELL_BYTES * 5 + PINTLECUP_VALUE_BYTES] = 1;
+    printf("load %d\n", pintlecup_load(&state, mirror, sizeof mirror, 5, out, sizeof out));
+    check(&state);
     return 0;
 }

@@ -53,8 +53,8 @@ extern "C" {
 
 /* ---- Numbers
  *
- * 0 is done. Any other is a refusal, but for 255, which only a check gives. A refused call leaves the state and every lent byte as they were (start
- * and unpack, which write a struct anew, say below what they leave). Where several hold, it is 7 first, then the smallest.
+ * 0 is done. Any other is a refusal, but for 254 and 255, which only a check gives. A refused call leaves the state and every lent byte as they were
+ * (start and unpack, which write a struct anew, say below what they leave). Where several hold, it is 7 first, then the smallest.
  */
 
 #define PINTLECUP_DONE 0
@@ -73,7 +73,8 @@ extern "C" {
 #define PINTLECUP_BAD_LENGTHS 13            /* pack, unpack: the lengths are not lawful */
 #define PINTLECUP_PAST_PREFIX 14            /* pack, unpack: a bit past the prefix length is set */
 #define PINTLECUP_NO_MEMBER 15              /* pack, unpack: the member number is 0 */
-#define PINTLECUP_REJECTED 255              /* check: the store lied */
+#define PINTLECUP_REJECTED_STAMP 254        /* check: the store lied, and a stamp was ahead of the clock */
+#define PINTLECUP_REJECTED_TAG 255          /* check: the store lied, and no stamp was ahead of the clock */
 
 /* ---- Types */
 
@@ -91,7 +92,8 @@ typedef struct pintlecup_state {
     uint16_t clock;
     uint8_t fault;
     uint8_t closed;
-    uint32_t unused; /* no meaning; written as 0 */
+    uint16_t first;  /* where fault is set: the address of the first take since the start, or since the last accept, whose stamp was ahead of the clock */
+    uint16_t unused; /* no meaning; written as 0 */
 } pintlecup_state;
 
 #define PINTLECUP_IPV4 0
@@ -138,9 +140,12 @@ uint8_t pintlecup_remove(pintlecup_state *state, uint8_t *store, size_t store_si
 
 /* 0: it accepts. Every load so far gave what was last added or stored at its address, or hashes have collided; the clock is 1, and every cell in
  *    use has that stamp.
- * 255: it rejects. The store lied, at some load, store or remove, or now: use nothing loaded since the last accept. The state is closed for good.
- * 7, 1: refused, and nothing is said. */
-uint8_t pintlecup_check(pintlecup_state *state, uint8_t *store, size_t store_size);
+ * 254, 255: it rejects. The store lied, at some load, store or remove, or now: use nothing loaded since the last accept. The state is closed for good.
+ *    254 is for a stamp that was ahead of the clock: when it was taken, nothing put since the last accept had reached it. *address is where: of several
+ *    since then, the one that was taken first, and this check's own takes come last; of a state from a start it is below 1,024. 255 is for the tags: no stamp was ahead, and what was taken is not what was put.
+ * 7, 1: refused, and nothing is said.
+ * *address is written with 254 alone. */
+uint8_t pintlecup_check(pintlecup_state *state, uint8_t *store, size_t store_size, size_t *address);
 
 /* Where in the store the 28 bytes of an address's value begin; 30,720 where the store's size or the address is refused. It says nothing of truth. */
 size_t pintlecup_look(const uint8_t *store, size_t store_size, size_t address);

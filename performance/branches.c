@@ -32,6 +32,7 @@ static uint8_t *secret(size_t length)
 /* ---- a store under a secret key */
 static pintlecup_state state;
 static uint8_t cells[PINTLECUP_STORE_BYTES], value[PINTLECUP_VALUE_BYTES], out[PINTLECUP_VALUE_BYTES];
+static size_t address; /* that a check writes */
 
 static void start(void)
 {
@@ -65,14 +66,16 @@ static void removes(size_t a, uint8_t answer)
 
 static void check(size_t size, uint8_t answer)
 {
-    gives(pintlecup_check(&state, cells, size), answer, "check");
+    gives(pintlecup_check(&state, cells, size, &address), answer, "check");
+    must(VALGRIND_CHECK_MEM_IS_DEFINED(&address, sizeof address) == 0, "an address");
 }
 
-/* The answer hangs on secret bytes, and is public: it is marked as defined where it is read. */
+/* The answer hangs on secret bytes, and with it whether the address is written. Both are public: they are marked as defined where they are read. */
 static void verdict(uint8_t expected)
 {
-    uint8_t answer = pintlecup_check(&state, cells, sizeof cells);
+    uint8_t answer = pintlecup_check(&state, cells, sizeof cells, &address);
     (void)VALGRIND_MAKE_MEM_DEFINED(&answer, 1);
+    (void)VALGRIND_MAKE_MEM_DEFINED(&address, sizeof address);
     must(answer == expected, "verdict");
 }
 
@@ -117,13 +120,18 @@ static void calls(void)
     work();
     cells[PINTLECUP_CELL_BYTES * 62 + PINTLECUP_VALUE_BYTES] = 0xff; /* a stamp ahead: the fault is marked, and decides */
     load(62, 0);
-    must(state.fault, "a fault");
-    check(sizeof cells, PINTLECUP_REJECTED);
+    must(state.fault && state.first == 62, "a fault");
+    check(sizeof cells, PINTLECUP_REJECTED_STAMP);
+    must(address == 62, "the address of the fault");
     check(sizeof cells, PINTLECUP_CLOSED);
     load(62, PINTLECUP_CLOSED);
     work();
+    cells[PINTLECUP_CELL_BYTES * 93 + PINTLECUP_VALUE_BYTES] = 0xff; /* and one that the check itself takes */
+    check(sizeof cells, PINTLECUP_REJECTED_STAMP);
+    must(address == 93, "the address of the check's own fault");
+    work();
     state.put.number += 1; /* as if an entry more had been put: the numbers differ, and decide */
-    check(sizeof cells, PINTLECUP_REJECTED);
+    check(sizeof cells, PINTLECUP_REJECTED_TAG);
     gives(pintlecup_start(&state, key, PINTLECUP_KEY_BYTES - 1), PINTLECUP_BAD_KEY, "start");
     add(0, PINTLECUP_CLOSED);
 }
@@ -138,7 +146,7 @@ static void verdicts(void)
         work();
         cells[at] ^= 1; /* a lie that only the tags tell */
         load(62, 0);
-        verdict(PINTLECUP_REJECTED);
+        verdict(PINTLECUP_REJECTED_TAG);
         check(sizeof cells, PINTLECUP_CLOSED);
     }
 }

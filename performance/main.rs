@@ -11,7 +11,7 @@ mod exported {
     extern "C" {
         pub fn pintlecup_start(state: *mut State, key: *const u8, size: usize) -> u8;
         pub fn pintlecup_add(state: *mut State, store: *mut u8, size: usize, address: usize, value: *const u8, value_size: usize) -> u8;
-        pub fn pintlecup_check(state: *mut State, store: *mut u8, size: usize) -> u8;
+        pub fn pintlecup_check(state: *mut State, store: *mut u8, size: usize, address: *mut usize) -> u8;
         pub fn pintlecup_digest(message: *const u8, size: usize, out: *mut u8, room: usize) -> u8;
         pub fn pintlecup_hmac(key: *const u8, key_size: usize, message: *const u8, size: usize, out: *mut u8, room: usize) -> u8;
         pub fn plain_digest(message: *const u8, size: usize, out: *mut u8, room: usize) -> u8;
@@ -28,13 +28,14 @@ use exported::*;
 fn proved_checks(key: &[u8; 32], store: &mut [u8], value: &[u8], cells: usize, times: usize) -> bool {
     let mut state = [0; 30];
     let mut last = false;
+    let mut address = 0;
     unsafe {
         pintlecup_start(&mut state, key.as_ptr(), key.len());
         for a in 0..cells {
             pintlecup_add(&mut state, store.as_mut_ptr(), store.len(), a, value.as_ptr(), value.len());
         }
         for _ in 0..times {
-            last = pintlecup_check(&mut state, store.as_mut_ptr(), store.len()) == 0;
+            last = pintlecup_check(&mut state, store.as_mut_ptr(), store.len(), &mut address) == 0;
         }
     }
     last

@@ -162,6 +162,14 @@ impl Hash {
     }
 }
 
+/// What a check says: that it accepts, or why it rejects.
+#[derive(PartialEq)]
+pub enum Verdict {
+    Accept,
+    Stamp(u16),
+    Tag,
+}
+
 /// The trusted state.
 #[derive(Clone)]
 pub struct State {
@@ -170,6 +178,7 @@ pub struct State {
     take: Hash,
     clock: u16,
     fault: bool,
+    first: u16,
     closed: bool,
     marks: [u64; ADDRESSES / 64],
 }
@@ -182,6 +191,7 @@ impl State {
             take: Hash::EMPTY,
             clock: 0,
             fault: false,
+            first: 0,
             closed: false,
             marks: [0; ADDRESSES / 64],
         }
@@ -217,8 +227,9 @@ impl State {
     fn take_at(&mut self, store: &[u8], a: usize) {
         let cell = &store[CELL * a..CELL * a + CELL];
         let stamp = u16::from_be_bytes([cell[VALUE], cell[VALUE + 1]]);
-        if stamp > self.clock {
+        if stamp > self.clock && !self.fault {
             self.fault = true;
+            self.first = a as u16;
         }
         let tag = self.tag_of(a, cell);
         self.take.add(&tag);
@@ -260,7 +271,7 @@ impl State {
     }
 
     /// Whether the store is what was put: the verdict, or the number of what refuses it.
-    pub fn check(&mut self, store: &mut [u8]) -> Result<bool, u8> {
+    pub fn check(&mut self, store: &mut [u8]) -> Result<Verdict, u8> {
         if self.closed {
             return Err(7);
         }
@@ -273,7 +284,7 @@ impl State {
         }
         if taken.put != taken.take || taken.fault {
             self.closed = true;
-            return Ok(false);
+            return Ok(if taken.fault { Verdict::Stamp(taken.first) } else { Verdict::Tag });
         }
         self.put = Hash::EMPTY;
         self.take = Hash::EMPTY;
@@ -281,7 +292,7 @@ impl State {
         for a in self.addresses() {
             self.put_at(store, a, 1);
         }
-        Ok(true)
+        Ok(Verdict::Accept)
     }
 }
 
@@ -293,7 +304,7 @@ pub fn checks(key: &[u8; 32], store: &mut [u8], value: &[u8], cells: usize, time
     }
     let mut last = false;
     for _ in 0..times {
-        last = state.check(store) == Ok(true);
+        last = state.check(store) == Ok(Verdict::Accept);
     }
     last
 }

@@ -10,7 +10,7 @@
 static pintlecup_state state;
 static pintlecup_filter filter = {PINTLECUP_IPV6, PINTLECUP_PERMIT, 128, 128, 64496, 7, {0x20, 0x01}};
 static uint8_t cells[PINTLECUP_STORE_BYTES], value[PINTLECUP_VALUE_BYTES], bytes[8192], hash[32];
-static size_t address, answer; /* the next address, and what the call gave */
+static size_t address, answer; /* the next address, or the one that a call writes; and what the call gave */
 
 static uint8_t __attribute__((noipa)) none(void) { return 0; }
 
@@ -20,7 +20,7 @@ static void add(void) { answer = pintlecup_add(&state, cells, sizeof cells, addr
 static void load(void) { answer = pintlecup_load(&state, cells, sizeof cells, 5, value, sizeof value); }
 static void store(void) { answer = pintlecup_store(&state, cells, sizeof cells, 5, value, sizeof value); }
 static void removes(void) { answer = pintlecup_remove(&state, cells, sizeof cells, 5); }
-static void check(void) { answer = pintlecup_check(&state, cells, sizeof cells); }
+static void check(void) { answer = pintlecup_check(&state, cells, sizeof cells, &address); }
 static void look(void) { answer = pintlecup_look(cells, sizeof cells, 5) - 150; }
 static void count(void) { answer = pintlecup_count(&state) - PINTLECUP_ADDRESSES; }
 static void lowest_free(void) { answer = pintlecup_lowest_free(&state, &address); }
@@ -71,7 +71,7 @@ int main(void)
     row("look", look, 0);
     row("remove", removes, 0);
     cells[0] ^= 1;
-    row("check that rejects, 1,023 addresses in use", check, PINTLECUP_REJECTED);
+    row("check that rejects, 1,023 addresses in use", check, PINTLECUP_REJECTED_TAG);
     row("digest of 8,192 bytes", digest, 0);
     row("HMAC of 4,096 bytes under a key of 1,024", hmac, 0);
     row("pack", pack, 0);

@@ -79,6 +79,7 @@ class Bench:
         self.takes = Multiset()
         self.clock = 0
         self.fault = False
+        self.first = 0
         self.closed = False
         self.used = set()
 
@@ -92,8 +93,8 @@ class Bench:
 
     def take(self, a):
         value, stamp = self.cell(a)
-        if stamp > self.clock:
-            self.fault = True
+        if stamp > self.clock and not self.fault:
+            self.fault, self.first = True, a
         self.takes.insert(a, value, stamp)
         return value
 
@@ -149,7 +150,7 @@ class Bench:
     def check(self):
         if self.closed:
             return "7"
-        entry = self.takes.copy(), self.fault
+        entry = self.takes.copy(), self.fault, self.first
         for a in sorted(self.used):
             self.take(a)
         if self.puts == self.takes and not self.fault:
@@ -160,9 +161,10 @@ class Bench:
                 self.write(a, value, 1)
                 self.puts.insert(a, value, 1)
             return "accept"
-        self.takes, self.fault = entry
+        why = "stamp %d" % self.first if self.fault else "tag"
+        self.takes, self.fault, self.first = entry
         self.closed = True
-        return "reject"
+        return "reject " + why
 
     def spoil(self, a, byte, stamp):
         if a >= ADDRESSES:

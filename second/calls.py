@@ -12,9 +12,10 @@ VALUE = 28
 CELL = VALUE + 2
 STORE = CELL * ADDRESSES
 CEILING = 65535
-REJECTED = 255
+REJECTED_STAMP = 254
+REJECTED_TAG = 255
 
-HELD = struct.Struct("<32s16Q32sI32sIHBBI")
+HELD = struct.Struct("<32s16Q32sI32sIHBBHH")
 FIELDS = struct.Struct("<BBBBII16s")
 TOP = {0: 32, 1: 128}
 WIDTHS = [1, 1, 8, 8, 14, 32, 32, 128]
@@ -46,14 +47,17 @@ class State:
         self.clock = parts[21]
         self.fault = parts[22] != 0
         self.closed = parts[23] != 0
+        self.first = parts[24]
 
     def held(self):
         words = [sum(1 << bit for bit in range(64) if 64 * i + bit in self.used) for i in range(16)]
-        return HELD.pack(self.key, *words, self.put.tag, self.put.number, self.take.tag, self.take.number, self.clock, self.fault, self.closed, 0)
+        hashes = [self.put.tag, self.put.number, self.take.tag, self.take.number]
+        return HELD.pack(self.key, *words, *hashes, self.clock, self.fault, self.closed, self.first, 0)
 
     def take_at(self, store, a):
         value, stamp = cell(store, a)
-        self.fault = self.fault or stamp > self.clock
+        if stamp > self.clock and not self.fault:
+            self.fault, self.first = True, a
         self.take.insert(self.key, a, value, stamp)
         return value
 
@@ -140,21 +144,23 @@ def remove(a, held, store):
     return 0, state.held(), bytes(after)
 
 
-def check(a, held, store):
+def check(a, held, store, address):
     state, after = State(held), bytearray(store)
     number = refusal(state, store)
     if number:
-        return number, held, store
-    for address in sorted(state.used):
-        state.take_at(after, address)
-    if state.fault or state.put != state.take:
-        shut = State(held)
-        shut.closed = True
-        return REJECTED, shut.held(), store
+        return number, held, store, address
+    for b in sorted(state.used):
+        state.take_at(after, b)
+    shut = State(held)
+    shut.closed = True
+    if state.fault:
+        return REJECTED_STAMP, shut.held(), store, state.first.to_bytes(8, "little")
+    if state.put != state.take:
+        return REJECTED_TAG, shut.held(), store, address
     state.put, state.take, state.clock = Hash(), Hash(), 1
-    for address in sorted(state.used):
-        state.put_at(after, address, cell(store, address)[0], 1)
-    return 0, state.held(), bytes(after)
+    for b in sorted(state.used):
+        state.put_at(after, b, cell(store, b)[0], 1)
+    return 0, state.held(), bytes(after), address
 
 
 def look(a, store):
@@ -233,7 +239,7 @@ ANSWERS = {
     load: {0, 1, 2, 3, 5, 6, 7},
     store: {0, 1, 2, 3, 5, 6, 7},
     remove: {0, 1, 2, 5, 7},
-    check: {0, 1, 7, REJECTED},
+    check: {0, 1, 7, REJECTED_STAMP, REJECTED_TAG},
     look: None,
     count: None,
     lowest_free: {0, 9},

@@ -6,8 +6,8 @@
 
 The calls: any bytes as states, stores and filter records; sizes around every bound; clocks at the ceiling; and runs from a start with a store that
 lies. Each buffer lies between bytes that are known, or against memory that cannot be touched (driver.c). At the end how often each call gave each
-number, and 'N calls, 0 differences'. At the first difference the call is printed and written to a file, with the command that makes it again, and the
-exit status is 1; it is 1 too where a call never gave one of its numbers.
+number, how often a check had each reason (REASONS), and 'N calls, 0 differences'. At the first difference the call is printed and written to a file,
+with the command that makes it again, and the exit status is 1; it is 1 too where a call never gave one of its numbers, or a reason was never met.
 """
 import collections
 import os
@@ -25,6 +25,15 @@ DRIVER = TOP / "target" / "library" / "built" / "driver"
 FOUND = TOP / "target" / "difference.call"
 CALLS = list(calls.ANSWERS)
 LEAST = 15000
+# the fields of a state, and their bytes
+HELD = {"key": 32, "marks": 128, "put": 36, "take": 36, "clock": 2, "fault": 1, "closed": 1, "first": 2, "unused": 2}
+# what is counted of a check's reasons: rejects for a stamp, by the call that took the first one of the period; with several, and with a later one at a
+# lower address; with hashes that are equal all the same, or not; in a period that an accept began; with an address that only a made-up state has;
+# rejects for the tags; accepts of a state with some address in `first`; and takes of a stamp that is the clock, which mark no fault
+REASONS = [
+    "stamp by load", "stamp by store", "stamp by remove", "stamp by check", "several stamps", "a later one lower", "hashes equal", "hashes differ",
+    "after an accept", "made-up address", "tags", "accept with an address", "stamp at the clock",
+]
 
 
 class Driver:
@@ -75,7 +84,9 @@ class Comparison:
     def __init__(self):
         self.driver = Driver()
         self.met = collections.Counter()
+        self.reasons = collections.Counter()
         self.made = 0
+        self.answer = None
 
     def difference(self, request):
         """What differs at a call, or None; and what the call left."""
@@ -84,6 +95,7 @@ class Comparison:
         got = self.driver.ask(request, [len(b) for b in lent])
         self.made += 1
         self.met[call.__name__, expected] += 1
+        self.answer = expected
         if got is None:
             return "the library's program ended", after
         result, harm, left = got
@@ -94,11 +106,11 @@ class Comparison:
         for i, (want, have) in enumerate(zip(after, left)):
             if want != have:
                 at = next(k for k in range(len(want)) if want[k] != have[k])
-                return f"buffer {i}, byte {at}: {want[at]} expected, {have[at]} left", after
+                return f"buffer {i}, byte {at}{field(want, at)}: {want[at]} expected, {have[at]} left", after
         return None, after
 
     def make(self, rng, call, address, *lent):
-        """A call: its answer, and what it left. At a difference it tells all, and ends the program."""
+        """A call: what it left; its answer is kept. At a difference it tells all, and ends the program."""
         request = request_of(call, rng.randrange(3), address, lent)
         said, after = self.difference(request)
         if said:
@@ -118,7 +130,18 @@ class Comparison:
                 continue
             print(f"{name:12} " + ", ".join(f"{number}: {given.get(number, 0)}" for number in sorted(numbers)))
             missing += [f"{name} never gave {number}" for number in sorted(numbers - set(given))]
-        return missing
+        print("reasons      " + ", ".join(f"{reason}: {self.reasons[reason]}" for reason in REASONS))
+        return missing + [f"no check met: {reason}" for reason in REASONS if not self.reasons[reason]]
+
+
+def field(buffer, at):
+    """The field of a state that a byte of it is in."""
+    if len(buffer) != calls.HELD.size:
+        return ""
+    for name, size in HELD.items():
+        if at < size:
+            return f", in {name}"
+        at -= size
 
 
 def told(request, said):
@@ -131,11 +154,67 @@ def told(request, said):
 
 # ---- what is asked
 
+class Run:
+    """A state and its store, from call to call, with no fault marked at first; and what its takes have found in the period."""
+
+    def __init__(self, asker, held, store):
+        self.asker, self.held, self.store = asker, held, store
+        self.ahead = []  # the takes of the period whose stamps were ahead of the clock: the call's name, and the address
+        self.accepted = False
+
+    def state(self):
+        return calls.State(self.held)
+
+    def make(self, call, a, *more):
+        before, store = self.state(), self.store
+        self.held, self.store, *rest = self.asker.make(call, a, self.held, store, *more)
+        answer = self.asker.compared.answer
+        if answer not in (0, calls.REJECTED_STAMP, calls.REJECTED_TAG):
+            return
+        taken = sorted(before.used) if call is calls.check else [] if call is calls.add else [a]
+        stamps = {b: calls.cell(store, b)[1] for b in taken}
+        self.ahead += [(call.__name__, b) for b, stamp in stamps.items() if stamp > before.clock]
+        if not self.ahead and before.clock in stamps.values():
+            self.met("stamp at the clock")
+        if call is calls.check:
+            self.judged(answer, before, store, int.from_bytes(rest[0], "little"))
+
+    def check(self):
+        self.make(calls.check, 0, self.asker.bytes(8))
+
+    def write(self, a, cell):
+        """What a store that lies does."""
+        self.store = self.store[: calls.CELL * a] + cell + self.store[calls.CELL * a + calls.CELL :]
+
+    def met(self, reason):
+        self.asker.compared.reasons[reason] += 1
+
+    def judged(self, answer, state, store, address):
+        """A check that was done: why, by the takes that this run has seen."""
+        if answer == calls.REJECTED_STAMP:
+            (by, at), addresses = self.ahead[0], {b for _, b in self.ahead}
+            if address != at:
+                sys.exit(f"the first take ahead was at {at}, and both tell of {address}")
+            for b in sorted(state.used):
+                state.take_at(store, b)
+            self.met(f"stamp by {by}")
+            self.met("hashes equal" if state.put == state.take else "hashes differ")
+            for reason, holds in [("several stamps", len(addresses) > 1), ("a later one lower", min(addresses) < at), ("after an accept", self.accepted)]:
+                if holds:
+                    self.met(reason)
+        elif answer == calls.REJECTED_TAG:
+            self.met("tags")
+        else:
+            self.ahead, self.accepted = [], True
+            if state.first:
+                self.met("accept with an address")
+
+
 class Asker:
     def __init__(self, comparison, seed):
         self.rng = random.Random(seed)
         self.compared = comparison
-        self.kinds = [self.any_state] * 6 + [self.run] * 2 + [self.hashes] * 3 + [self.filters] * 4 + [self.full] * 2 + [self.looks]
+        self.kinds = [self.any_state] * 6 + [self.run] * 2 + [self.stamps] * 2 + [self.hashes] * 3 + [self.filters] * 4 + [self.full] * 2 + [self.looks]
 
     def one(self):
         (self.truth if self.rng.randrange(300) == 0 else self.rng.choice(self.kinds))()
@@ -163,9 +242,10 @@ class Asker:
             words[r.randrange(16)] |= 1 << r.randrange(64)
         number = lambda: r.choice([0, 1, 2**32 - 1, r.randrange(2**32)])
         mark = lambda *often: r.choice([*often, 0, 1, 2, 128, 255])
-        return calls.HELD.pack(
-            r.choice([bytes(32), self.bytes(32)]), *(marks or words), self.bytes(32), number(), self.bytes(32), number(), clock, mark(0, 0, 0), mark(*[0] * 20), number()
-        )
+        first = r.choice([0, 1023, 1024, 65535, r.randrange(1024), r.randrange(65536)])
+        hashes = [self.bytes(32), number(), self.bytes(32), number()]
+        key = r.choice([bytes(32), self.bytes(32)])
+        return calls.HELD.pack(key, *(marks or words), *hashes, clock, mark(0, 0, 0), mark(*[0] * 20), first, r.randrange(65536))
 
     def any_state(self):
         r = self.rng
@@ -179,29 +259,39 @@ class Asker:
             held = bytes(held)
         if call in (calls.add, calls.load, calls.store):
             self.make(call, self.address(used), held, store, self.bytes(self.size(28, 64)))
-        elif call in (calls.remove, calls.check):
+        elif call is calls.remove:
             self.make(call, self.address(used), held, store)
+        elif call is calls.check:
+            *_, address = self.make(call, 0, held, store, self.bytes(8))
+            if self.compared.answer == calls.REJECTED_STAMP and int.from_bytes(address, "little") >= 1024:
+                self.compared.reasons["made-up address"] += 1
         elif call is calls.count:
             self.make(call, 0, held)
         else:
             self.make(call, 0, held, self.bytes(8))
 
+    def started(self, key):
+        """A run from a start, refused or not; the state may get another `first`, which has no meaning while no fault is marked."""
+        held, _ = self.make(calls.start, 0, self.bytes(240), key)
+        if self.rng.randrange(2):
+            held = held[:236] + self.bytes(2) + held[238:]
+        return Run(self, held, self.rng.choice([bytes(calls.STORE), self.bytes(calls.STORE)]))
+
     def run(self):
         """A run from a start, with a store that mostly tells the truth."""
         r = self.rng
-        held, _ = self.make(calls.start, 0, self.bytes(240), self.bytes(self.size(32, 64)))
-        store = r.choice([bytes(calls.STORE), self.bytes(calls.STORE)])
+        run = self.started(self.bytes(self.size(32, 64)))
         addresses = [r.randrange(1024) for _ in range(r.choice([1, 3, 8]))]
         older = []
         lies = r.random() < 0.4
         for _ in range(r.randrange(4, 30)):
             a = r.choice(addresses)
             cell = slice(30 * a, 30 * a + 30)
-            older.append((a, store[cell], held, store))
+            older.append((a, run.store[cell], run.store))
             if lies and r.random() < 0.1:
                 # an older cell, one byte, the stamp, another cell, or the whole store as it was
                 was = r.choice(older)
-                b = bytearray(store)
+                b = bytearray(run.store)
                 kind = r.randrange(5)
                 if kind == 0:
                     b[30 * was[0] : 30 * was[0] + 30] = was[1]
@@ -210,19 +300,52 @@ class Asker:
                 elif kind == 2:
                     b[30 * a + 28 : 30 * a + 30] = r.choice([0, 1, 65535, r.randrange(65536)]).to_bytes(2, "big")
                 elif kind == 3:
-                    b[cell] = store[30 * was[0] : 30 * was[0] + 30]
+                    b[cell] = run.store[30 * was[0] : 30 * was[0] + 30]
                 else:
-                    b[:] = was[3]
-                store = bytes(b)
+                    b[:] = was[2]
+                run.store = bytes(b)
             if r.random() < 0.02:
                 # the clock near its end: any state is legal
-                held = held[:232] + r.choice([65533, 65534, 65535]).to_bytes(2, "little") + held[234:]
+                run.held = run.held[:232] + r.choice([65533, 65534, 65535]).to_bytes(2, "little") + run.held[234:]
             call = r.choice([calls.add] * 3 + [calls.load] * 3 + [calls.store] * 2 + [calls.remove, calls.check])
-            if call in (calls.add, calls.load, calls.store):
-                held, store, _ = self.make(call, a, held, store, self.bytes(28))
-            else:
-                held, store = self.make(call, a, held, store)
-        self.make(calls.check, 0, held, store)
+            run.make(call, a, *self.lent(call))
+        run.check()
+
+    def lent(self, call):
+        """What a call of a run is lent besides the state and the store."""
+        return [] if call is calls.remove else [self.bytes(8 if call is calls.check else 28)]
+
+    def stamps(self):
+        """A run from a start with a store that makes up stamps: at the clock or ahead of it, for calls and the check to take; or so that the hashes agree."""
+        r = self.rng
+        run = self.started(self.bytes(32))
+        addresses = r.sample(range(1024), r.choice([1, 2, 4]))
+        for a in addresses:
+            run.make(calls.add, a, self.bytes(28))
+        if r.randrange(3) == 0:
+            run.check()
+        if r.randrange(4) == 0:
+            self.early(run, r.choice(addresses))
+        else:
+            for a in r.sample(addresses, r.randint(1, len(addresses))):
+                clock = run.state().clock
+                stamp = r.choice([clock, clock + 1, r.randrange(clock, 65536)])
+                run.write(a, calls.cell(run.store, a)[0] + stamp.to_bytes(2, "big"))
+                call = r.choice([calls.load, calls.store, calls.remove, None])
+                if call:
+                    run.make(call, a, *self.lent(call))
+        run.check()
+
+    def early(self, run, a):
+        """A call gets the very entry that it, or the add after it, is about to put, and the check the one that was there: what is taken is what was put."""
+        call = self.rng.choice([calls.load, calls.store, calls.remove])
+        was = run.store[30 * a : 30 * a + 30]
+        value = was[:28] if call is calls.load else self.bytes(28)
+        run.write(a, value + (run.state().clock + 1).to_bytes(2, "big"))
+        run.make(call, a, *([] if call is calls.remove else [value]))
+        if call is calls.remove:
+            run.make(calls.add, a, value)
+        run.write(a, was)
 
     def full(self):
         """Many addresses in use, or all; counted, and the lowest free one found."""
@@ -235,9 +358,9 @@ class Asker:
         self.make(calls.add, self.address(), held, self.bytes(calls.STORE), self.bytes(28))
 
     def truth(self):
-        """A check of many addresses in use, whose cells are all as they were put, or all but one."""
+        """A check of many addresses in use, whose cells are all as they were put, or all but one; their stamps may be ahead of the clock."""
         r = self.rng
-        state = calls.State(calls.HELD.pack(self.bytes(32), *[0] * 16, bytes(32), 0, bytes(32), 0, 65535, 0, 0, 0))
+        state = calls.State(calls.HELD.pack(self.bytes(32), *[0] * 16, bytes(32), 0, bytes(32), 0, r.choice([65535, 65535, r.randrange(65536)]), 0, 0, 0, 0))
         state.used = set(r.sample(range(1024), r.choice([64, 100, 1024])))
         store = self.bytes(calls.STORE)
         for a in state.used:
@@ -245,8 +368,9 @@ class Asker:
         if r.randrange(3) == 0:
             at = 30 * r.choice(sorted(state.used)) + r.randrange(30)
             store = store[:at] + bytes([store[at] ^ 1]) + store[at + 1 :]
-        held, store = self.make(calls.check, 0, state.held(), store)
-        self.make(calls.check, 0, held, store)
+        run = Run(self, state.held(), store)
+        run.check()
+        run.check()
 
     def looks(self):
         self.make(calls.look, self.address(), self.bytes(self.size(calls.STORE, 40000)))

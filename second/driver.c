@@ -66,7 +66,7 @@ static uint64_t called(int call, size_t address) {
     case 3: return pintlecup_load((pintlecup_state *)a, (uint8_t *)b, size[1], address, (uint8_t *)c, size[2]);
     case 4: return pintlecup_store((pintlecup_state *)a, (uint8_t *)b, size[1], address, (uint8_t *)c, size[2]);
     case 5: return pintlecup_remove((pintlecup_state *)a, (uint8_t *)b, size[1], address);
-    case 6: return pintlecup_check((pintlecup_state *)a, (uint8_t *)b, size[1]);
+    case 6: return pintlecup_check((pintlecup_state *)a, (uint8_t *)b, size[1], (size_t *)c);
     case 7: return pintlecup_look((uint8_t *)a, size[0], address);
     case 8: return pintlecup_count((pintlecup_state *)a);
     case 9: return pintlecup_lowest_free((pintlecup_state *)a, (size_t *)b);

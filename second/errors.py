@@ -125,7 +125,7 @@ class Reopened(bench.Bench):
 
     def check(self):
         said = super().check()
-        if said == "reject":
+        if said.startswith("reject"):
             self.fault = self.closed = False
         return said
 
@@ -150,7 +150,66 @@ class ClosedChecked(bench.Bench):
         return super().check()
 
 
+class LaterFault(bench.Bench):
+    """the address of a later fault overwrites that of the first"""
+
+    def take(self, a):
+        late = self.cell(a)[1] > self.clock
+        value = super().take(a)
+        self.first = a if late else self.first
+        return value
+
+
+class LowestFault(bench.Bench):
+    """the lowest address whose stamp was ahead is named, and not the earliest take"""
+
+    def take(self, a):
+        late, marked = self.cell(a)[1] > self.clock, self.fault
+        value = super().take(a)
+        self.first = min(a, self.first) if late and marked else self.first
+        return value
+
+
+class EqualStamp(bench.Bench):
+    """the address is that of the first take whose stamp is the clock or ahead of it"""
+
+    near = None
+
+    def take(self, a):
+        if self.near is None and self.cell(a)[1] >= self.clock:
+            self.near = a
+        value = super().take(a)
+        self.first = self.near if self.fault else self.first
+        return value
+
+    def check(self):
+        said = super().check()
+        self.near = None
+        return said
+
+
+class OwnLeftOut(bench.Bench):
+    """the check's own takes are left out of its reason"""
+
+    def check(self):
+        fault = self.fault
+        said = super().check()
+        return "reject tag" if said.startswith("reject") and not fault else said
+
+
+class TagWhereEqual(bench.Bench):
+    """a check rejects for the tags where a stamp was ahead and the hashes agree"""
+
+    def check(self):
+        puts, takes = self.puts.copy(), self.takes.copy()
+        for a in self.used:
+            takes.insert(a, *self.cell(a))
+        said = super().check()
+        return "reject tag" if said.startswith("reject") and puts == takes else said
+
+
 ERRORS = [RaisedFirst, NoAddress, StoreTakesNothing, StoreTakesOwn, LoadEnds, Reopened, ClosedTaken, ClosedChecked, NeverFault, RemoveBlind, LoadTakesNothing]
+ERRORS += [LaterFault, LowestFault, EqualStamp, OwnLeftOut, TagWhereEqual]
 
 
 def printed(error, data):

@@ -6,7 +6,7 @@ these, runs whose input or output fails must fail.
 
 The last line is 'F fixed and N seeded sessions, 0 differences'. At the first difference the session is printed and written to a file, with the command
 that runs it again, and the exit status is 1. Session number i of a seed is the same on every machine. What the sessions would show of errors that look
-right is counted by errors.py.
+right is counted by errors.py, and in what ways their checks come to reject by reasons.py.
 """
 import os
 import random
@@ -199,6 +199,22 @@ def mended(rng):
     return one_lie(rng, "mend", 1)
 
 
+def late(rng):
+    """Stamps ahead of the clock at some addresses, taken one after the other by calls or by the check alone; in some sessions after a check that accepts."""
+    w = Writer(rng, rng.sample(range(bench.ADDRESSES), rng.randint(2, 5)))
+    for a in w.addresses:
+        w.say("add %d %s" % (a, w.byte()))
+    for _ in range(rng.randint(0, 4)):
+        w.say(rng.choice(["load %d" % w.used(), "check"]))
+    for a in rng.sample(w.addresses, rng.randint(1, len(w.addresses))):
+        value, stamp = w.bench.cell(a)
+        w.spoil(a, value, w.bench.clock + rng.choice([0, 1, 1, 2, 100]))
+        w.say(rng.choice(["load %d" % a, "store %d %s" % (a, w.byte()), "remove %d" % a, "load %d" % w.used()]))
+    w.say("check")
+    w.say("load %d" % w.used())
+    return w.lines
+
+
 def every_command_at(rng):
     """Each command at each address of interest, before and after it is in use."""
     lines = []
@@ -341,8 +357,8 @@ def tiny(rng):
 
 
 KINDS = [
-    lawful, planted, lying, exchanged, edges, every_command_at, mended, closed, crowded,
-    malformed, planted, all_bad, noise, exchanged, damaged, sized, tiny, lying,
+    lawful, planted, lying, exchanged, edges, every_command_at, mended, closed, crowded, late,
+    malformed, planted, all_bad, noise, exchanged, damaged, sized, tiny, lying, late,
 ]
 
 # No input prints more than 4,096 newlines: a byte is a line of its own there, and each prints 4. The longest answer to a line is a check's.
@@ -354,6 +370,9 @@ FIXED = [
     b"add 0 41\n" + b"load 0\n" * 583 + b"check\n",
     b"add 0 41\n" + b"load 0\n" * 583 + b"\ncheck",
     b"add 0 41\n" + b"load 0\n" * 583 + b"\ncheck\n",
+    b"add 5 41\nspoil 5 41 9\ncheck\n",
+    b"add 9 41\nadd 2 42\nspoil 9 41 7\nload 9\nspoil 2 42 8\nload 2\ncheck\ncheck\n",
+    b"add 1023 41\nadd 2 42\nspoil 1023 41 3\nspoil 2 42 2\ncheck\n",
 ]
 
 

@@ -38,10 +38,14 @@ class Lent:
 
 @dataclasses.dataclass
 class Call:
-    """A thin call of a covered function, the work, whose result is a number that is the answer, or a struct with these fields and the answer among them."""
+    """A thin call of a covered function, the work, whose result is a number that is the answer, or a struct with these fields and the answer among them.
+
+    The work and the structs are of another crate, in its root.
+    """
 
     crate: str
     name: str
+    home: str
     work: str
     lent: list
     result: str
@@ -53,10 +57,12 @@ HELD = Lent("state", "out", "Held", back="state")
 STORE = Lent("store", "mut")
 ADDRESS = Lent("address", "int")
 KEPT = ("answer", "state")
+# what is written through the lent pointer to an address
+WRITTEN = Lent("address", "out", back="address")
 
 
-def export(name, *lent, result="values.Kept", fields=KEPT, answer="answer"):
-    return Call("exports", f"pintlecup_{name}", f"values.{name}", list(lent), result, fields, answer)
+def export(name, *lent, result="Kept", fields=KEPT, answer="answer"):
+    return Call("exports", f"pintlecup_{name}", "held", name, list(lent), result, fields, answer)
 
 
 CALLS = [
@@ -65,11 +71,11 @@ CALLS = [
     export("load", HELD, STORE, ADDRESS, Lent("out", "mut")),
     export("store", HELD, STORE, ADDRESS, Lent("value", "shr")),
     export("remove", HELD, STORE, ADDRESS),
-    export("check", HELD, STORE),
+    export("check", HELD, STORE, WRITTEN, result="Judged", fields=(*KEPT, "address")),
     export("count", Lent("state", "in", "Held"), result="u32", fields=(), answer=""),
-    export("lowest_free", Lent("state", "in", "Held"), Lent("address", "out", back="address"), result="values.Lowest", fields=("number", "address"), answer="number"),
+    export("lowest_free", Lent("state", "in", "Held"), WRITTEN, result="Lowest", fields=("number", "address"), answer="number"),
     export("pack", Lent("filter", "in", "Fields"), Lent("out", "mut"), result="u8", fields=(), answer=""),
-    export("unpack", Lent("bytes", "shr"), Lent("filter", "out", "Fields", copied=False, back="fields"), result="values.Read", fields=("number", "fields"), answer="number"),
+    export("unpack", Lent("bytes", "shr"), Lent("filter", "out", "Fields", copied=False, back="fields"), result="Read", fields=("number", "fields"), answer="number"),
     export("compare", Lent("held", "in", "Fields"), Lent("offered", "in", "Fields"), result="u8", fields=(), answer=""),
 ]
 
@@ -82,16 +88,15 @@ BITS = {"u8": "w8", "u16": "w16", "u32": "w32", "u64": "w64", "usize": "w64"}
 class Type:
     """A plain type's row, and its laws."""
 
-    def __init__(self, path):
-        self.path = path
-        self.name = path.split(".")[-1]
-        self.int = path in BITS
-        self.denotes = "ℕ" if self.int else self.name
-        self.row = path if self.int else f"{self.name}ᵀ.the-row"
+    def __init__(self, name):
+        self.name = name
+        self.int = name in BITS
+        self.denotes = "ℕ" if self.int else name
+        self.row = name if self.int else f"{name}ᵀ.the-row"
 
     def law(self, word):
         if self.int:
-            return f"uint-{word} {'𝓤 H A W ' if word in ('lawful', 'makes', 'copy') else ''}{BITS[self.path]}"
+            return f"uint-{word} {'𝓤 H A W ' if word in ('lawful', 'makes', 'copy') else ''}{BITS[self.name]}"
         if word == "makes":
             return f"LL.makes {self.name}ᵀ.the-type {self.name}ᴸ.the-plain 𝓤 H A"
         if word == "copy":
@@ -99,7 +104,7 @@ class Type:
         return f"LL.{word} {self.name}ᵀ.the-type {self.name}ᴸ.the-laws{' 𝓤 H A W' if word == 'lawful' else ''}"
 
     def value(self, x):
-        return f"vint {BITS[self.path]} {x}" if self.int else f"LL.tuple-val {self.name}ᵀ.the-type {self.name}ᴸ.the-laws ({self.name}ᵀ.the-type .to {x})"
+        return f"vint {BITS[self.name]} {x}" if self.int else f"LL.tuple-val {self.name}ᵀ.the-type {self.name}ᴸ.the-laws ({self.name}ᵀ.the-type .to {x})"
 
     def shown(self):
         return f"{self.row} (Is {self.row}) (shows 𝓤 H A {self.row})"
@@ -298,12 +303,12 @@ class Walk:
 
     # the parts of the file
     def uses(self):
-        x = f"Rattle.{self.call.crate}.proofs"
-        d = f"Rattle.{self.call.crate}.specs.declared"
+        mine = f"Rattle.{self.call.crate}.proofs.{self.call.name}"
+        home = f"Rattle.{self.call.home}"
         kinds = {p.kind for p in self.lent}
         has = lambda *words: kinds & set(words)
         names = lambda *groups: ", ".join(name for test, some in groups if test for name in some.split())
-        ints = sorted({t.path for t in [*self.types.values(), self.result] if t.int} | ({"u8"} if self.slices or self.call.answer else set()))
+        ints = sorted({t.name for t in [*self.types.values(), self.result] if t.int} | ({"u8"} if self.slices or self.call.answer else set()))
         copies = any(p.copied for p in self.refs)
         yield f"mathlib.Core.Path.{{{names((1, '_≡_ refl'), (self.call.fields, 'ap subst'))}}}"
         yield "Prim.Native.Nat.{ℕ}"
@@ -349,17 +354,17 @@ class Walk:
         yield "denote.Triple.Table.{entered, cited}"
         yield f"denote.Triple.Walked.{{says, Stays, {names((has('out'), 'stay-ref'), (has('mut'), 'gave-slice'), (kinds - {'out', 'mut'}, 'stay-dropped'), (1, 'walkOf'), (has('out'), 'goes-ref'), (has('mut'), 'goes-gave-slice'), (kinds - {'out', 'mut'}, 'goes-dropped'), (1, 'Walks ends-at walked walk-meets'))}}}"
         yield "denote.Exit.{yes}"
-        for t in {t.path: t for t in [*self.types.values(), self.result] if not t.int}.values():
-            yield f"{d}.{t.path}.{{{t.name}}}"
-            yield f"{x}.{t.path} as {t.name}ᵀ"
-            yield f"{x}.{t.path}.Laws as {t.name}ᴸ"
-        yield f"{x}.{self.call.work} as g"
-        yield f"{x}.{self.call.work}.Symbol as work"
-        yield f"{x}.{self.call.work}.Met as known"
-        yield f"{x}.{self.call.name} as f"
-        yield f"{x}.{self.call.name}.Key as key"
-        yield f"{x}.{self.call.name}.Statement as stated"
-        yield f"{x}.{self.call.name}.Code as code"
+        for t in dict.fromkeys(t.name for t in [*self.types.values(), self.result] if not t.int):
+            yield f"{home}.specs.declared.{t}.{{{t}}}"
+            yield f"{home}.proofs.{t} as {t}ᵀ"
+            yield f"{home}.proofs.{t}.Laws as {t}ᴸ"
+        yield f"{home}.proofs.{self.call.work} as g"
+        yield f"{home}.proofs.{self.call.work}.Symbol as work"
+        yield f"{home}.proofs.{self.call.work}.Met as known"
+        yield f"{mine} as f"
+        yield f"{mine}.Key as key"
+        yield f"{mine}.Statement as stated"
+        yield f"{mine}.Code as code"
 
     def goes_to_work(self):
         c = Context(["tokens", *(["slices"] if self.slices else [])])
@@ -578,7 +583,7 @@ class Walk:
         pick = lambda i, p: f"({deep('a', i)} .ptr .0) ({deep('a', i)} .ptr .1) ({deep('a', i)} .name) ({deep('a', i)} .now)" if p in self.refs else f"({deep('a', i)})"
         known = [*self.slices, *(p for p in self.lent if p.kind == "int")]
         copies = "".join(f"Is {self.types[p.name].row} {p.name} ({self.types[p.name].value(p.name)} ∷ []) → " for p in self.refs if p.copied)
-        return f"""-- `{call.crate}::{call.name}` meets its contract: a walk of its MIR, written by tools/walks.py. It is a thin call of `{call.work.replace('.', '::')}`, and all that is known of that is that it meets its own.
+        return f"""-- `{call.crate}::{call.name}` meets its contract: a walk of its MIR, written by tools/walks.py. It is a thin call of `{call.home}::{call.work}`, and all that is known of that is that it meets its own.
 -- Assumes nothing.
 {chr(10).join('use ' + use for use in self.uses())}
 
@@ -634,7 +639,7 @@ unfolding code.routine tablesOf
     entered 𝓤 H (tripleOf 𝓤 H (𝓖 .A) f.signature (f.spec 𝓤 H (𝓖 .A) (𝓜 .mem) (𝓡 .run)))
     (tables 𝓤 H 𝓜 𝓡 code.env .C) (tables 𝓤 H 𝓜 𝓡 code.env .Λ) key.name code.function (code.unfolded 𝓤 H 𝓜 𝓡)
     (meets 𝓤 H (𝓖 .A) (givenOf 𝓤 H 𝓜 𝓖) (𝓜 .mem) (𝓡 .run) (tablesOf 𝓤 H 𝓜 (tables 𝓤 H 𝓜 𝓡 code.env))
-    (cited 𝓤 H (Work 𝓤 H (𝓖 .A) (𝓜 .mem) (𝓡 .run)) 𝓜 𝓡 code.env work.name work.routine code.calls-{call.crate}·{call.work.replace('.', '·').replace('_', '-')} (known.met 𝓤 H 𝓜 𝓖 𝓡)))
+    (cited 𝓤 H (Work 𝓤 H (𝓖 .A) (𝓜 .mem) (𝓡 .run)) 𝓜 𝓡 code.env work.name work.routine code.calls-{call.home}·{call.work.replace('_', '-')} (known.met 𝓤 H 𝓜 𝓖 𝓡)))
 """
 
 

@@ -7,7 +7,7 @@ use Rattle.lines.specs.Grammar.{newline, spaced}
 use Rattle.answers.specs.declared.Name.{Name}
 use Rattle.answers.specs.declared.Name.the-variants.{Add, Store, Load, Remove, Check, Spoil}
 use Rattle.answers.specs.declared.Answer.{Answer}
-use Rattle.answers.specs.declared.Answer.the-variants.{Numbered, Loaded, Accepted, Rejected, Bad}
+use Rattle.answers.specs.declared.Answer.the-variants.{Numbered, Loaded, Accepted, Stamp, Tag, Bad}
 
 abbrev pub nameOf : Name → List ℕ
 nameOf Add = ascii "add"
@@ -17,12 +17,13 @@ nameOf Remove = ascii "remove"
 nameOf Check = ascii "check"
 nameOf Spoil = ascii "spoil"
 
--- the command and its number; the value's first byte after a load that worked; a check's verdict in place of its number
+-- the command and its number; the value's first byte after a load that worked; a check's verdict in place of its number, and why where it rejects
 abbrev pub wordsSaid : Answer → List (List ℕ)
 wordsSaid (Numbered c n) = nameOf c ∷ decimal n ∷ []
 wordsSaid (Loaded b) = ascii "load" ∷ decimal 0 ∷ hex b ∷ []
 wordsSaid Accepted = ascii "check" ∷ ascii "accept" ∷ []
-wordsSaid Rejected = ascii "check" ∷ ascii "reject" ∷ []
+wordsSaid (Stamp a) = ascii "check" ∷ ascii "reject" ∷ ascii "stamp" ∷ decimal a ∷ []
+wordsSaid Tag = ascii "check" ∷ ascii "reject" ∷ ascii "tag" ∷ []
 wordsSaid Bad = ascii "bad" ∷ []
 
 -- its words, a blank between them, and a newline

@@ -4,7 +4,7 @@ ghost use mathlib.Core.List.{[], _∷_, _++_};
 ghost use Rattle.lines.specs.Grammar.{blank};
 ghost use Rattle.page.specs.Page.{page, write};
 ghost use Rattle.answers.specs.Answers.{nameOf, said};
-ghost use Rattle.answers.specs.declared.Answer.the-variants.{Numbered, Loaded};
+ghost use Rattle.answers.specs.declared.Answer.the-variants.{Numbered, Loaded, Stamp};
 
 // The name of a command.
 pub enum Name {
@@ -16,12 +16,14 @@ pub enum Name {
     Spoil,
 }
 
-// What a line prints: a command with its number; the byte of a load that was done; a check's verdict; or that it is bad.
+// What a line prints: a command with its number; the byte of a load that was done; a check's verdict, with the address where it rejects for a stamp; or that
+// the line is bad.
 pub enum Answer {
     Numbered(Name, u8),
     Loaded(u8),
     Accepted,
-    Rejected,
+    Stamp(u16),
+    Tag,
     Bad,
 }
 
@@ -33,7 +35,8 @@ pub fn say(out: &mut [u8], at: usize, answer: Answer) -> usize
         Answer::Numbered(name, n) => return say_number(out, at, name, n),
         Answer::Loaded(b) => return say_byte(out, at, b),
         Answer::Accepted => return page::put(out, at, b"check accept\n"),
-        Answer::Rejected => return page::put(out, at, b"check reject\n"),
+        Answer::Stamp(a) => return say_stamp(out, at, a),
+        Answer::Tag => return page::put(out, at, b"check reject tag\n"),
         Answer::Bad => return page::put(out, at, b"bad\n"),
     }
 }
@@ -42,7 +45,15 @@ fn say_number(out: &mut [u8], at: usize, name: Name, n: u8) -> usize
     ensures { λ r. ⌜ page (now (out .exit)) r ≡ write (page (now (out .entry)) at) (said (Numbered name n)) ⌝ }
 {
     let named = put_name(out, at, name);
-    let told = page::put_decimal(out, named, n);
+    let told = page::put_decimal(out, named, n as u16);
+    page::put(out, told, b"\n")
+}
+
+fn say_stamp(out: &mut [u8], at: usize, a: u16) -> usize
+    ensures { λ r. ⌜ page (now (out .exit)) r ≡ write (page (now (out .entry)) at) (said (Stamp a)) ⌝ }
+{
+    let named = page::put(out, at, b"check reject stamp ");
+    let told = page::put_decimal(out, named, a);
     page::put(out, told, b"\n")
 }
 

@@ -2,7 +2,7 @@
 use mathlib.Core.Path.{_≡_, refl, sym, ap, ap₂, _∙_}
 use mathlib.Core.Bool.{Bool, true, false}
 use mathlib.Core.List.{List, [], _∷_, _++_}
-use mathlib.Core.Option.{Option, some}
+use mathlib.Core.Option.{Option, none, some}
 use Prim.Native.Nat.{ℕ, _≤_}
 use native.Mathlib.Omega.{arith}
 use lib.Dec.{ltb}
@@ -27,7 +27,7 @@ held-on-time b o e h = go (ltb (b .clock) (e .stamp)) refl
     go false k = ltb-false (b .clock) (e .stamp) k
 
 module _ (tag : Entry → List ℕ) where
-  noted-calm : (b : Bag) (e : Event) → Orderly b → b .fault ≡ false → TakesHeld b e → noted b e .fault ≡ false
+  noted-calm : (b : Bag) (e : Event) → Orderly b → b .fault ≡ none → TakesHeld b e → noted b e .fault ≡ none
   unfolding noted empty
   noted-calm b (took e) o f h = rw (f, le-ltb (b .clock) (e .stamp) (held-on-time b o e h))
   noted-calm b (put e) o f h = f

@@ -6,6 +6,7 @@ pub mod Orderly
 pub mod Sound
 pub mod Complete
 pub mod Faults
+pub mod Counted
 pub mod Follows
 pub mod Sizes
 pub mod Stores

@@ -11,22 +11,16 @@ use lib.Dec.{eqb}
 use lib.ListN.{length, length-append}
 use borrow.Author.Tests.{eqb-true, eqb-false, eq-eqb}
 use Rattle.state.specs.Cells.{Entry}
-use Rattle.state.specs.Multiset.{hash}
 use Rattle.state.specs.Counts.{sameEntry, once, times}
 use Rattle.state.specs.TakePut.{Event, took, put, accepted}
-use Rattle.state.proofs.Multiset.{sameEntry-true, times-last, same-counts}
-use Rattle.state.specs.declared.Hash.{Hash}
-use Rattle.bag.specs.Bag.{Bag, empty, upd, noted}
+use Rattle.state.proofs.Multiset.{sameEntry-true, times-last}
+use Rattle.bag.specs.Bag.{Bag, empty, upd, there, noted}
 use Rattle.bag.specs.Law.{Bare, Stamped, May}
-use Rattle.bag.specs.Claims.{heldTimes, Orderly, StaysOrderly, Numbers}
+use Rattle.bag.specs.Claims.{heldTimes, Orderly, StaysOrderly}
 
 -- ---- what is held
 
-abbrev pub there : Option Entry → Bool
-there none = false
-there (some e) = true
-
-pub none-some : {o : Option Entry} {e : Entry} {A : Type 0} → o ≡ none → o ≡ some e → A
+pub none-some : {B : Type 0} {o : Option B} {e : B} {A : Type 0} → o ≡ none → o ≡ some e → A
 none-some p q = absurd (false≢true (ap there (sym p ∙ q)))
 
 pub upd-same : (f : ℕ → Option Entry) (a : ℕ) (x : Option Entry) (b : ℕ) → eqb b a ≡ true → upd f a x b ≡ x
@@ -53,7 +47,7 @@ upd-here f a x = upd-same f a x a (eq-eqb a a refl)
 pub same-stamp : (c e : Entry) → sameEntry c e ≡ true → c .stamp ≡ e .stamp
 same-stamp c e k = ap (λ (x : Entry). x .stamp) (sameEntry-true c e k)
 
-other-entry : (c e : Entry) → eqb (c .address) (e .address) ≡ false → sameEntry c e ≡ false
+pub other-entry : (c e : Entry) → eqb (c .address) (e .address) ≡ false → sameEntry c e ≡ false
 unfolding sameEntry
 other-entry c e h = rw h
 
@@ -143,7 +137,3 @@ stays-orderly tag b (e ∷ es) o (m, l) = stays-orderly tag (noted b e) es (note
 -- where nothing is held what was put is what was owed
 pub put-owed : (b : Bag) → Orderly b → Bare b → (c : Entry) → times c (b .puts) ≡ times c (b .owed)
 put-owed b o n c = let z : heldTimes (b .held (c .address)) c ≡ 0 = ap (λ (x : Option Entry). heldTimes x c) (n (c .address)) in omega (arith, o .balance c)
-
-pub numbers : (tag : Entry → List ℕ) → Numbers tag
-unfolding hash
-numbers tag b o n = ap (λ (h : Hash). h .number) (same-counts tag (b .puts) (b .owed) (put-owed b o n)) ∙ rw (o .paired)

@@ -1,9 +1,9 @@
 -- A wrong take whose stamp is not ahead of the clock takes an entry that was put as often as taken once more, and no later put can be equal to that entry: it
 -- stays a witness that puts and takes differ. An accepted check rules out a stamp that is ahead, and makes of the witness a collision. Assumes nothing.
 use mathlib.Core.Path.{_≡_, refl, sym, ap, ap₂, _∙_, subst}
-use mathlib.Core.Bool.{Bool, true, false, or-true, false≢true}
+use mathlib.Core.Bool.{Bool, true, false}
 use mathlib.Core.List.{List, [], _∷_, _++_}
-use mathlib.Core.Option.{Option, some}
+use mathlib.Core.Option.{Option, none, some}
 use mathlib.Core.Logic.{_⊎_, inl, inr, ⊎-map}
 use Prim.Native.Nat.{ℕ, _+_, _≤_, _<_}
 use native.Mathlib.Omega.{arith}
@@ -13,16 +13,16 @@ use Rattle.state.specs.Cells.{Entry}
 use Rattle.state.specs.Counts.{sameEntry, once, times}
 use Rattle.state.specs.TakePut.{Event, took, put, accepted}
 use Rattle.state.proofs.Multiset.{sameEntry-true, times-last, times-self}
-use Rattle.bag.specs.Bag.{Bag, empty, listed, noted, follow}
+use Rattle.bag.specs.Bag.{Bag, empty, listed, found, noted, follow}
 use Rattle.bag.specs.Law.{Stamped, May, Lawful, TakesHeld, Right}
 use Rattle.bag.specs.Claims.{heldTimes, Orderly, Collides, Stands, ahead, bad, right, Sound, SoundAccepted}
 use Rattle.bag.proofs.Lists.{place-stays}
 use Rattle.bag.proofs.Along.{along-split}
-use Rattle.bag.proofs.Orderly.{same-stamp, noted-orderly, stays-orderly}
+use Rattle.bag.proofs.Orderly.{none-some, same-stamp, noted-orderly, stays-orderly}
 
 module _ (tag : Entry → List ℕ) where
   stands-map : {b : Bag} {Q R : Type 0} → (Q → R) → Stands tag b Q → Stands tag b R
-  stands-map f (ahead h) = ahead h
+  stands-map f (ahead a h) = ahead a h
   stands-map f (bad c h k) = bad c h k
   stands-map f (right e q) = right e (f q)
 
@@ -31,7 +31,7 @@ module _ (tag : Entry → List ℕ) where
   module _ (b : Bag) (o : Orderly b) {R : Type 0} where
     take-stands : (e d : Entry) → b .held (e .address) ≡ some d → Stands tag b R → Stands tag (noted b (took e)) (R × TakesHeld b (took e))
     unfolding noted
-    take-stands e d h (ahead k) = ahead (rw k)
+    take-stands e d h (ahead a k) = ahead a (rw k)
     take-stands e d h (bad c k n) = bad c k (rw (times-last c (b .takes) e) (omega arith))
     take-stands e d h (right q r) = stamp (ltb (b .clock) (e .stamp)) refl
       where
@@ -46,13 +46,17 @@ module _ (tag : Entry → List ℕ) where
             let z : heldTimes (b .held (e .address)) e ≡ 0 = ap (λ (x : Option Entry). heldTimes x e) h ∙ ap once p in
             bad e k (omega (arith, o .balance e, ap (times e) q, times-self e (b .takes)))
 
+        found-now : (o : Option ℕ) → ltb (b .clock) (e .stamp) ≡ true → (a : ℕ) × (found o (b .clock) e ≡ some a)
+        found-now none k = (e .address, rw k)
+        found-now (some a) k = (a, refl)
+
         stamp : (t : Bool) → ltb (b .clock) (e .stamp) ≡ t → Then
-        stamp true k = ahead (rw (k, or-true))
+        stamp true k = let a = found-now (b .fault) k in ahead (a .0) (a .1)
         stamp false k = same (ltb-false (b .clock) (e .stamp) k) (sameEntry e d) refl
 
     put-stands : (e : Entry) → Stamped b e → Stands tag b R → Stands tag (noted b (put e)) R
     unfolding noted times
-    put-stands e s (ahead k) = ahead k
+    put-stands e s (ahead a k) = ahead a k
     put-stands e s (right q r) = right q r
     put-stands e s (bad c k n) =
         elim s [ inl g ↦ bad c (omega arith) (rw (times-last c (b .puts) e) (differs (omega arith) (sameEntry c e) refl)) | inr (g, f) ↦ absurd (omega (arith, ap (times c) g)) ]
@@ -65,9 +69,9 @@ module _ (tag : Entry → List ℕ) where
   More : Bag → Type 0
   More b = (c : Entry) × (times c (b .puts) < times c (b .takes))
 
-  calm-tells : (b : Bag) {R : Type 0} → b .fault ≡ false → Stands tag b R → More b ⊎ R
+  calm-tells : (b : Bag) {R : Type 0} → b .fault ≡ none → Stands tag b R → More b ⊎ R
   unfolding More
-  calm-tells b f (ahead h) = absurd (false≢true (sym f ∙ h))
+  calm-tells b f (ahead a h) = none-some f h
   calm-tells b f (bad c h k) = inl (c, k)
   calm-tells b f (right q r) = inr r
 

@@ -1,9 +1,9 @@
 -- A walk over the addresses where an entry is held, each once, as a check makes it: a take at each leaves nothing held, and a put at each again is lawful from
 -- the empty bag. Assumes nothing.
 use mathlib.Core.Path.{_≡_, refl, sym, ap, _∙_}
-use mathlib.Core.Bool.{Bool, true, false, cond, true≢false}
+use mathlib.Core.Bool.{Bool, true, false, cond}
 use mathlib.Core.List.{List, [], map}
-use mathlib.Core.Option.{Option, none, some}
+use mathlib.Core.Option.{none, some}
 use mathlib.Core.Logic.{inr}
 use Prim.Native.Nat.{ℕ, _≤_, _<_}
 use lib.ListN.{length}
@@ -12,21 +12,13 @@ use Rattle.state.specs.Cells.{Entry, entryAt}
 use Rattle.state.specs.TakePut.{Event, took, put}
 use Rattle.state.specs.Check.{opening}
 use Rattle.state.proofs.Cells.{value-length}
-use Rattle.bag.specs.Bag.{Bag, empty, noted, follow}
+use Rattle.bag.specs.Bag.{Bag, empty, there, noted, follow}
 use Rattle.bag.specs.Law.{Along, Bare, May, Lawful, TakesHeld, Right}
 use Rattle.bag.specs.Following.{Holds, PutFits, Bytes, TakeFits}
-use Rattle.bag.proofs.Orderly.{there, upd-other}
+use Rattle.bag.proofs.Orderly.{upd-other}
+use Rattle.bag.proofs.Cases.{there-some, there-none}
 use Rattle.bag.proofs.Sizes.{taken-fits}
 use Rattle.bag.proofs.Addresses.{among, Distinct, held-each, along-each, right-each}
-
--- an entry is held exactly where there is one
-pub held-some : (o : Option Entry) → there o ≡ true → (d : Entry) × (o ≡ some d)
-held-some none h = absurd (true≢false (sym h))
-held-some (some d) h = (d, refl)
-
-pub held-none : (o : Option Entry) → there o ≡ false → o ≡ none
-held-none none h = refl
-held-none (some d) h = absurd (true≢false h)
 
 -- a take at each of these addresses of what its cell holds, and a put of the value with stamp 1
 abbrev pub takesAt : ℕ → List ℕ → List ℕ → List Event
@@ -42,13 +34,13 @@ module _ (w : ℕ) (m : List ℕ) (b : Bag) (cs : List ℕ) (once : Distinct cs)
   unfolding noted entryAt
   takes-lawful tag =
       along-each (May tag) (λ b a. (d : Entry) × (b .held a ≡ some d)) took (entryAt w m) (λ b a h. h) (λ b c a n h. (h .0, upd-other (b .held) c none a n ∙ h .1)) cs once b
-      (λ a k. held-some (b .held a) (sym (exact a) ∙ k))
+      (λ a k. there-some (b .held a) (sym (exact a) ∙ k))
 
   pub takes-right : Holds w b m → Right b (takesAt w m cs)
   unfolding noted entryAt
   takes-right h =
       along-each TakesHeld (λ b a. b .held a ≡ some (entryAt w m a)) took (entryAt w m) (λ b a h. h) (λ b c a n h. upd-other (b .held) c none a n ∙ h) cs once b
-      (λ a k. let d = held-some (b .held a) (sym (exact a) ∙ k) in d .1 ∙ ap some (sym (h a (d .0) (d .1))))
+      (λ a k. let d = there-some (b .held a) (sym (exact a) ∙ k) in d .1 ∙ ap some (sym (h a (d .0) (d .1))))
 
   pub right-held : Right b (takesAt w m cs) → (a : ℕ) → among a cs ≡ true → b .held a ≡ some (entryAt w m a)
   unfolding entryAt
@@ -60,7 +52,7 @@ module _ (w : ℕ) (m : List ℕ) (b : Bag) (cs : List ℕ) (once : Distinct cs)
     where
       go : (u : Bool) → among a cs ≡ u → cond (among a cs) none (b .held a) ≡ none
       go true u = rw u
-      go false u = rw u (held-none (b .held a) (sym (exact a) ∙ u))
+      go false u = rw u (there-none (b .held a) (sym (exact a) ∙ u))
 
   -- ---- the puts
 

@@ -2,17 +2,16 @@
 -- in the place of an assumption on the hash. A run of calls needs only to show that its events keep the law.
 -- Assumes nothing.
 use mathlib.Core.Path.{_≡_}
-use mathlib.Core.Bool.{true, false}
-use mathlib.Core.List.{List, _∷_, _++_}
+use mathlib.Core.List.{List, [], _∷_, _++_}
 use mathlib.Core.Option.{Option, none, some}
 use mathlib.Core.Logic.{_⊎_, _≢_}
-use Prim.Native.Nat.{ℕ, _+_, _≤_, _<_}
+use Prim.Native.Nat.{ℕ, zero, suc, _+_, _≤_, _<_}
 use lib.ListN.{length}
 use Rattle.state.specs.Cells.{Entry}
 use Rattle.state.specs.Multiset.{hash}
 use Rattle.state.specs.Counts.{sameEntry, once, times}
 use Rattle.state.specs.TakePut.{Event, accepted}
-use Rattle.bag.specs.Bag.{Bag, follow}
+use Rattle.bag.specs.Bag.{Bag, listed, follow}
 use Rattle.bag.specs.Law.{Bare, Lawful, Right}
 
 -- how often an entry is held at its address: once or not at all
@@ -47,7 +46,7 @@ module _ (tag : Entry → List ℕ) where
   -- how a period stands: a stamp was ahead of the clock; or some entry was taken more often than put, and no later put can be equal to it; or each take took
   -- what was owed, and then R
   pub data Stands (b : Bag) (R : Type 0) : Type 0 where
-    ahead : b .fault ≡ true → Stands b R
+    ahead : (a : ℕ) → b .fault ≡ some a → Stands b R
     bad : (c : Entry) → c .stamp ≤ b .clock → times c (b .puts) < times c (b .takes) → Stands b R
     right : b .takes ≡ b .owed → R → Stands b R
 
@@ -65,9 +64,16 @@ module _ (tag : Entry → List ℕ) where
   -- where each take takes what is held no stamp is ahead, and once nothing is held any more what was put is what was taken
   abbrev pub Complete : Type 0
   Complete =
-      (b : Bag) (es : List Event) → Orderly b → b .takes ≡ b .owed → b .fault ≡ false → Lawful tag b es → Right b es
-      → (follow b es .fault ≡ false) × (Bare (follow b es) → (c : Entry) → times c (follow b es .puts) ≡ times c (follow b es .takes))
+      (b : Bag) (es : List Event) → Orderly b → b .takes ≡ b .owed → b .fault ≡ none → Lawful tag b es → Right b es
+      → (follow b es .fault ≡ none) × (Bare (follow b es) → (c : Entry) → times c (follow b es .puts) ≡ times c (follow b es .takes))
 
-  -- ---- element numbers: once nothing is held any more they are equal, whatever was taken
-  abbrev pub Numbers : Type 0
-  Numbers = (b : Bag) → Orderly b → Bare b → hash tag (b .puts) .number ≡ hash tag (b .takes) .number
+-- ---- how many
+
+-- what is held at the addresses below n
+unfoldable pub heldBelow : ℕ → (ℕ → Option Entry) → List Entry
+heldBelow zero held = []
+heldBelow (suc n) held = heldBelow n held ++ listed (held n)
+
+-- where nothing is held from n on, as many were put as were taken and are held, whatever was taken: as numbers, not modulo any
+abbrev pub Counted : Type 0
+Counted = (b : Bag) (n : ℕ) → Orderly b → ((a : ℕ) → n ≤ a → b .held a ≡ none) → length (b .puts) ≡ length (b .takes) + length (heldBelow n (b .held))

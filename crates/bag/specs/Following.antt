@@ -1,10 +1,10 @@
--- How the trusted state and the lent store go with a bag: the state's hashes, clock and fault mark are the bag's, an honest store holds what is held, and
--- entries fit their cells and their messages.
+-- How the trusted state and the lent store go with a bag: the state's hashes, clock, fault mark and first fault's address are the bag's, an honest store holds
+-- what is held, and entries fit their cells and their messages.
 -- Assumes nothing.
 use mathlib.Core.Path.{_≡_}
-use mathlib.Core.Bool.{true, false}
+use mathlib.Core.Bool.{true}
 use mathlib.Core.List.{List}
-use mathlib.Core.Option.{some}
+use mathlib.Core.Option.{Option, none, some}
 use mathlib.Core.Logic.{_↔_}
 use Prim.Native.Nat.{ℕ, _≤_, _<_}
 use lib.ListN.{length, getD}
@@ -15,21 +15,27 @@ use Rattle.state.specs.TakePut.{Event, took, put, accepted}
 use Rattle.state.specs.Check.{agrees}
 use Rattle.state.specs.declared.Seal.{Seal}
 use Rattle.state.specs.declared.State.{State}
-use Rattle.bag.specs.Bag.{Bag}
+use Rattle.bag.specs.Bag.{Bag, there}
 
 -- ---- the trusted state
 
--- a state has the seal, the bag's clock and fault mark, and the hashes of what the bag has put and taken; its marks are no part of this
+-- the address of a fault: 0 where there is none
+abbrev pub faultAddress : Option ℕ → ℕ
+faultAddress none = 0
+faultAddress (some a) = a
+
+-- a state has the seal, the bag's clock and fault, and the hashes of what the bag has put and taken; its marks are no part of this
 pub record Follows (tag : Seal → Entry → List ℕ) (k : Seal) (s : State) (b : Bag) : Type 0 where
   pub seal : s .seal ≡ k
   pub put : s .put ≡ hash (tag k) (b .puts)
   pub take : s .take ≡ hash (tag k) (b .takes)
   pub clock : s .clock ≡ b .clock
-  pub fault : s .fault ≡ b .fault
+  pub fault : s .fault ≡ there (b .fault)
+  pub first : s .first ≡ faultAddress (b .fault)
 
 -- so a check that looks at such a state after its takes tells of the bag exactly
-abbrev pub Verdict : (Seal → Entry → List ℕ) → Seal → Type 0
-Verdict tag k = (s : State) (b : Bag) → Follows tag k s b → (agrees s ≡ true) ↔ ((hash (tag k) (b .puts) ≡ hash (tag k) (b .takes)) × (b .fault ≡ false))
+abbrev pub AgreesExactly : (Seal → Entry → List ℕ) → Seal → Type 0
+AgreesExactly tag k = (s : State) (b : Bag) → Follows tag k s b → (agrees s ≡ true) ↔ ((hash (tag k) (b .puts) ≡ hash (tag k) (b .takes)) × (b .fault ≡ none))
 
 -- ---- the store
 

@@ -3,7 +3,6 @@
 -- held any more, the two hashes agree and no stamp was ahead of the clock.
 -- Assumes nothing.
 use mathlib.Core.Path.{_≡_}
-use mathlib.Core.Bool.{false}
 use mathlib.Core.List.{List, [], _∷_}
 use mathlib.Core.Option.{none, some}
 use mathlib.Core.Logic.{_⊎_}
@@ -27,7 +26,7 @@ Stamped b e = (e .stamp ≡ b .clock + 1) ⊎ ((b .takes ≡ []) × (e .stamp �
 abbrev pub May : (Entry → List ℕ) → Bag → Event → Type 0
 May tag b (took e) = (d : Entry) × (b .held (e .address) ≡ some d)
 May tag b (put e) = (b .held (e .address) ≡ none) × Stamped b e
-May tag b accepted = Bare b × (hash tag (b .puts) ≡ hash tag (b .takes)) × (b .fault ≡ false)
+May tag b accepted = Bare b × (hash tag (b .puts) ≡ hash tag (b .takes)) × (b .fault ≡ none)
 
 abbrev pub Lawful : (Entry → List ℕ) → Bag → List Event → Type 0
 Lawful tag = Along (May tag)

@@ -18,7 +18,7 @@ fn main() {
         return;
     }
     let n = found.count;
-    let mut out = io::large_buffer();
+    let mut out = [0u8; session::ROOM];
     let end = session::run(&space[..n], &mut out);
     if !io::write_all(STDOUT_FILENO, &out[..end]) {
         io::write_all(STDERR_FILENO, b"bench: a write of the answers failed\n");

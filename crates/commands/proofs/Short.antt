@@ -1,19 +1,24 @@
--- Every number that a command answers is one digit: the rows' numbers are. Assumes nothing.
+-- Every number that a command answers is one digit, since the rows' numbers are; and an address that it answers, or that the state keeps, fits two bytes, since
+-- takes are at addresses. Assumes nothing.
 use mathlib.Core.Path.{_≡_, refl}
-use mathlib.Core.Bool.{Bool, true, false, cond, _&&_}
+use mathlib.Core.Bool.{Bool, true, false, cond, not, _&&_}
 use mathlib.Core.List.{List, [], _∷_}
-use Prim.Native.Nat.{ℕ, zero, suc, _<_}
+use Prim.Native.Nat.{ℕ, zero, suc, _≤_, _<_}
 use native.Mathlib.Omega.{arith}
 use borrow.Author.Tests.{ltb-true}
 use lib.Dec.{T, ltb}
 use Rattle.refusal.specs.Refusal.{Row, first}
-use Rattle.state.specs.Sizes.{width}
-use Rattle.state.specs.TakePut.{Outcome}
+use Rattle.state.specs.Sizes.{width, addresses}
+use Rattle.state.specs.Marks.{used}
+use Rattle.state.specs.Cells.{stampAt, entryAt}
+use Rattle.state.specs.TakePut.{Seen, seen, Outcome, withMarks, close, takeEntry, putEntry}
 use Rattle.state.specs.Access.{addressRow, addRows, exchangeRows, removeRows, call, added, addOf, loaded, loadOf, stored, storeOf, removed, removeOf}
-use Rattle.state.specs.Check.{checkRows, agrees, takeAll, acceptance, rejection, checkOf}
+use Rattle.state.specs.Check.{checkRows, agrees, reason, takeAll, acceptance, rejection, checkOf}
 use Rattle.state.specs.declared.State.{State}
-use Rattle.state.specs.declared.Verdict.{Verdict}
-use Rattle.state.specs.declared.Verdict.the-variants.{Accept, Reject, Nothing}
+use Rattle.state.specs.declared.Verdict.the-variants.{Stamp, Tag, Nothing}
+use Rattle.state.proofs.Walks.{takeEachBelow, takeBelow, take-all}
+use Rattle.state.proofs.Guards.{opens}
+use Rattle.state.proofs.Ready.{exchange-ready, remove-ready}
 use Rattle.entries.specs.Tag.{tag}
 use Rattle.lines.specs.declared.Command.{Command}
 use Rattle.lines.specs.declared.Command.the-variants.{Add, Store, Load, Remove, Check, Spoil, Bad}
@@ -34,38 +39,87 @@ first-small (r ∷ rs) t = go (r .holds) (ltb (r .number) 10) refl (first-small 
     go false true e h = h (rw e at t)
     go b false e h = absurd (rw e at t)
 
--- a call's number, where the call that is done gives 0
-call-small : (rows : List Row) (s : State) (m o : List ℕ) (x : Outcome) → T (small rows) → x .seen .number ≡ 0 → call rows s m o x .seen .number < 10
-unfolding call
-call-small rows s m o x t e = go (first rows) refl
-  where
-    go : (n : ℕ) → first rows ≡ n → call rows s m o x .seen .number < 10
-    go zero q = rw (q, e) (omega arith)
-    go (suc n) q = rw q (rw q at (first-small rows t))
+-- the address of a state's first fault fits two bytes; and what a call gives is short
+abbrev pub Kept : State → Type 0
+Kept s = s .first < 65536
 
-check-small : (s : State) (m : List ℕ) → checkOf width tag s m .seen .number < 10
-unfolding small checkOf checkRows acceptance rejection
-check-small s m = call-small (checkRows width s m) s m [] _ tt (go (agrees (takeAll width tag s m)))
+record Given (x : Seen) : Type 0 where
+  number : x .number < 10
+  short : Short (checkAnswer (x .number) (x .verdict))
+  kept : Kept (x .state)
+
+given-done : (s : State) (m o : List ℕ) → Kept s → Given (seen 0 Nothing s m o)
+given-done s m o k = record { number = omega arith; short = omega arith; kept = k }
+
+given-call : (rows : List Row) (s : State) (m o : List ℕ) (x : Outcome) → T (small rows) → Kept s → (first rows ≡ 0 → Given (x .seen)) → Given (call rows s m o x .seen)
+unfolding call
+given-call rows s m o x t k g = go (first rows) refl (first-small rows t)
   where
-    go : (b : Bool) → cond b (acceptance width tag s m) (rejection width tag s m) .seen .number ≡ 0
-    go true = refl
-    go false = refl
+    go : (n : ℕ) → first rows ≡ n → first rows < 10 → Given (call rows s m o x .seen)
+    go zero q h = rw q (g q)
+    go (suc n) q h = rw q (record { number = rw q at h; short = rw q at h; kept = k })
+
+-- takes at addresses keep one of them, or the address that there was
+take-kept : (s : State) (m : List ℕ) (a : ℕ) → a < addresses → Kept s → Kept (takeEntry tag s (entryAt width m a))
+unfolding takeEntry entryAt addresses
+take-kept s m a h k = go (not (s .fault) && ltb (s .clock) (stampAt width m a))
+  where
+    go : (b : Bool) → cond b a (s .first) < 65536
+    go true = omega arith
+    go false = k
+
+takes-kept : (ws : List ℕ) (s : State) (m : List ℕ) (n : ℕ) → n ≤ addresses → Kept s → Kept (takeEachBelow width tag ws s m n)
+unfolding takeEachBelow
+takes-kept ws s m zero h k = k
+takes-kept ws s m (suc n) h k = go (used ws n) (takes-kept ws s m n (omega arith) k)
+  where
+    t : State
+    t = takeEachBelow width tag ws s m n
+
+    go : (b : Bool) → Kept t → Kept (cond b (takeEntry tag t (entryAt width m n)) t)
+    go true r = take-kept t m n h r
+    go false r = r
+
+reason-short : (s : State) → Kept s → Short (checkAnswer 0 (reason s))
+unfolding reason
+reason-short s k = go (s .fault)
+  where
+    go : (b : Bool) → Short (checkAnswer 0 (cond b (Stamp (s .first)) Tag))
+    go true = k
+    go false = tt
+
+given-check : (s : State) (m : List ℕ) → Kept s → Given (checkOf width tag s m .seen)
+unfolding small checkOf checkRows acceptance rejection close takeBelow
+given-check s m k = given-call (checkRows width s m) s m [] _ tt k (λ e. go (agrees t))
+  where
+    t : State
+    t = takeAll width tag s m
+
+    go : (b : Bool) → Given (cond b (acceptance width tag s m) (rejection width tag s m) .seen)
+    go true = record { number = omega arith; short = tt; kept = rw (opens width tag s m .first) k }
+    go false = record { number = omega arith; short = reason-short t (rw (take-all width tag s m) (takes-kept (s .marks) s m addresses (omega arith) k)); kept = k }
 
 load-short : (n b : ℕ) → n < 10 → Short (loadAnswer n b)
 load-short zero b h = tt
 load-short (suc n) b h = h
 
-check-short : (n : ℕ) (v : Verdict) → n < 10 → Short (checkAnswer n v)
-check-short n Accept h = tt
-check-short n Reject h = tt
-check-short n Nothing h = h
-
-pub answer-short : (s : State) (m : List ℕ) (c : Command) → Short (ranCommand s m c .answer)
-unfolding ranCommand small addOf added addRows exchangeRows storeOf stored loadOf loaded removeRows removeOf removed spoilOf
-answer-short s m (Add a v) = let v = filledWith v in call-small (addRows width s m a v) s m [] (added width tag s m a v) tt refl
-answer-short s m (Store a v) = let v = filledWith v in call-small (exchangeRows width s m a v) s m [] (stored width tag s m a v) tt refl
-answer-short s m (Load a) = let o = filledWith 0 in load-short _ _ (call-small (exchangeRows width s m a o) s m o (loaded width tag s m a) tt refl)
-answer-short s m (Remove a) = call-small (removeRows width s m a) s m [] (removed width tag s m a) tt refl
-answer-short s m Check = check-short _ (checkOf width tag s m .seen .verdict) (check-small s m)
-answer-short s m (Spoil a v t) = first-small (addressRow a ∷ []) tt
-answer-short s m Bad = tt
+pub answer-short : (s : State) (m : List ℕ) (c : Command) → Kept s → Short (ranCommand s m c .answer) × Kept (ranCommand s m c .state)
+unfolding ranCommand small addOf added addRows exchangeRows storeOf stored loadOf loaded removeRows removeOf removed spoilOf withMarks putEntry
+answer-short s m (Add a v) k =
+    let v = filledWith v in
+    let g = given-call (addRows width s m a v) s m [] (added width tag s m a v) tt k (λ e. given-done _ _ _ k) in
+    (g .number, g .kept)
+answer-short s m (Store a v) k =
+    let v = filledWith v in
+    let g = given-call (exchangeRows width s m a v) s m [] (stored width tag s m a v) tt k (λ e. given-done _ _ _ (take-kept s m a (exchange-ready width s m a v e .0 .below) k)) in
+    (g .number, g .kept)
+answer-short s m (Load a) k =
+    let o = filledWith 0 in
+    let g = given-call (exchangeRows width s m a o) s m o (loaded width tag s m a) tt k (λ e. given-done _ _ _ (take-kept s m a (exchange-ready width s m a o e .0 .below) k)) in
+    (load-short _ _ (g .number), g .kept)
+answer-short s m (Remove a) k =
+    let g = given-call (removeRows width s m a) s m [] (removed width tag s m a) tt k (λ e. given-done _ _ _ (take-kept s m a (remove-ready width s m a e .below) k)) in
+    (g .number, g .kept)
+answer-short s m Check k = let g = given-check s m k in (g .short, g .kept)
+answer-short s m (Spoil a v t) k = (first-small (addressRow a ∷ []) tt, k)
+answer-short s m Bad k = (tt, k)

@@ -11,7 +11,7 @@ use Rattle.state.specs.Access.{addressRow, addOf, loadOf, storeOf, removeOf}
 use Rattle.state.specs.Check.{checkOf}
 use Rattle.state.specs.declared.State.{State}
 use Rattle.state.specs.declared.Verdict.{Verdict}
-use Rattle.state.specs.declared.Verdict.the-variants.{Accept, Reject, Nothing}
+use Rattle.state.specs.declared.Verdict.the-variants.{Accept, Stamp, Tag, Nothing}
 use Rattle.entries.specs.Tag.{tag}
 use Rattle.lines.specs.declared.Command.{Command}
 use Rattle.lines.specs.declared.Command.the-variants.{Add, Store, Load, Remove, Check, Spoil, Bad}
@@ -35,7 +35,8 @@ loadAnswer n b = done n (answer.Loaded b) (answer.Numbered name.Load n)
 -- a check's answer: its verdict, or its number where it has none
 abbrev pub checkAnswer : ℕ → Verdict → Answer
 checkAnswer n Accept = answer.Accepted
-checkAnswer n Reject = answer.Rejected
+checkAnswer n (Stamp a) = answer.Stamp a
+checkAnswer n Tag = answer.Tag
 checkAnswer n Nothing = answer.Numbered name.Check n
 
 -- what a command leaves, and its answer

@@ -110,7 +110,8 @@ fn check_answer(n: u8, verdict: Verdict) -> Answer
 {
     match verdict {
         Verdict::Accept => return Answer::Accepted,
-        Verdict::Reject => return Answer::Rejected,
+        Verdict::Stamp(a) => return Answer::Stamp(a),
+        Verdict::Tag => return Answer::Tag,
         Verdict::Nothing => return Answer::Numbered(Name::Check, n),
     }
 }

@@ -1,6 +1,6 @@
 // The library under C names. Each call is lent the caller's own structs and buffers, changes them in place, and answers with a number.
-mod values;
-
+use held::Fields;
+use held::Held;
 use state::State;
 ghost use mathlib.Core.Path.{_≡_};
 ghost use mathlib.Core.List.{[]};
@@ -15,49 +15,16 @@ ghost use Rattle.state.specs.Check.{checkOf};
 ghost use Rattle.entries.specs.Tag.{tag};
 ghost use Rattle.filter.specs.Filter.{packOf, unpackOf};
 ghost use Rattle.going.specs.Going.{goingOf};
-ghost use Rattle.exports.specs.Held.{stateOf, heldOf};
-ghost use Rattle.exports.specs.Fields.{recordOf, fieldsOf};
-ghost use Rattle.exports.specs.Answers.{left, inPlace, lookAnswer, freeOr, goingAnswer};
-
-// A multiset hash, as its caller holds it.
-#[repr(C)]
-pub struct Hash {
-    pub tag: [u8; State::TAG],
-    pub number: u32,
-}
-
-// The trusted state, as its caller holds it: 240 bytes without a gap. Each number in it may have any value: a mark is clear where its byte is 0, and else
-// set; the last four bytes have no meaning, and are written as 0.
-#[repr(C)]
-pub struct Held {
-    pub key: [u8; State::KEY],
-    pub marks: [u64; State::WORDS],
-    pub put: Hash,
-    pub take: Hash,
-    pub clock: u16,
-    pub fault: u8,
-    pub closed: u8,
-    pub unused: u32,
-}
-
-// A filter record, as its caller holds it: family 0 is IPv4, and else IPv6; action 0 is deny, and else permit.
-#[repr(C)]
-pub struct Fields {
-    pub family: u8,
-    pub action: u8,
-    pub length: u8,
-    pub longest: u8,
-    pub member: u32,
-    pub serial: u32,
-    pub prefix: [u8; 16],
-}
+ghost use Rattle.held.specs.Held.{stateOf, heldOf};
+ghost use Rattle.held.specs.Fields.{recordOf, fieldsOf};
+ghost use Rattle.held.specs.Answers.{left, inPlace, stampOr, lookAnswer, freeOr, goingAnswer};
 
 // Starts a state under a key of 32 bytes; for any other key number 8, and a closed state of zeros.
 #[no_mangle]
 pub extern "C" fn pintlecup_start(state: &mut Held, key: &[u8]) -> u8
     ensures { λ r. ⌜ (r ≡ startOf (now (key .entry)) .number) × (now (state .exit) ≡ heldOf (startOf (now (key .entry)) .state)) ⌝ }
 {
-    let started = values::start(key);
+    let started = held::start(key);
     *state = started.state;
     started.answer
 }
@@ -74,7 +41,7 @@ pub extern "C" fn pintlecup_add(
         ≡ inPlace (now (state .entry)) (addOf width tag (stateOf (now (state .entry))) (now (store .entry)) address (now (value .entry)) .seen) ⌝ }
 {
     let h = *state;
-    let added = values::add(h, store, address, value);
+    let added = held::add(h, store, address, value);
     *state = added.state;
     added.answer
 }
@@ -91,7 +58,7 @@ pub extern "C" fn pintlecup_load(
         ≡ inPlace (now (state .entry)) (loadOf width tag (stateOf (now (state .entry))) (now (store .entry)) address (now (out .entry)) .seen) ⌝ }
 {
     let h = *state;
-    let loaded = values::load(h, store, address, out);
+    let loaded = held::load(h, store, address, out);
     *state = loaded.state;
     loaded.answer
 }
@@ -108,7 +75,7 @@ pub extern "C" fn pintlecup_store(
         ≡ inPlace (now (state .entry)) (storeOf width tag (stateOf (now (state .entry))) (now (store .entry)) address (now (value .entry)) .seen) ⌝ }
 {
     let h = *state;
-    let stored = values::store(h, store, address, value);
+    let stored = held::store(h, store, address, value);
     *state = stored.state;
     stored.answer
 }
@@ -120,20 +87,24 @@ pub extern "C" fn pintlecup_remove(state: &mut Held, store: &mut [u8], address: 
         ≡ inPlace (now (state .entry)) (removeOf width tag (stateOf (now (state .entry))) (now (store .entry)) address .seen) ⌝ }
 {
     let h = *state;
-    let removed = values::remove(h, store, address);
+    let removed = held::remove(h, store, address);
     *state = removed.state;
     removed.answer
 }
 
-// 0 where the check accepts, and 255 where it rejects and closes the state; else the number of a refusal.
+// 0 where the check accepts. Where it rejects the state is closed: 254 for a stamp that was ahead of the clock, and the lent address is that of the first; 255
+// for the tags. Else the number of a refusal. The lent address is written with 254 alone.
 #[no_mangle]
-pub extern "C" fn pintlecup_check(state: &mut Held, store: &mut [u8]) -> u8
-    ensures { λ r. ⌜ left r (now (state .exit)) (now (store .exit)) []
-        ≡ inPlace (now (state .entry)) (checkOf width tag (stateOf (now (state .entry))) (now (store .entry)) .seen) ⌝ }
+pub extern "C" fn pintlecup_check(state: &mut Held, store: &mut [u8], address: &mut usize) -> u8
+    ensures { λ r. ⌜ (left r (now (state .exit)) (now (store .exit)) []
+        ≡ inPlace (now (state .entry)) (checkOf width tag (stateOf (now (state .entry))) (now (store .entry)) .seen))
+        × (now (address .exit) ≡ stampOr (now (address .entry)) (checkOf width tag (stateOf (now (state .entry))) (now (store .entry)) .seen .verdict)) ⌝ }
 {
     let h = *state;
-    let checked = values::check(h, store);
+    let a = *address;
+    let checked = held::check(h, store, a);
     *state = checked.state;
+    *address = checked.address;
     checked.answer
 }
 
@@ -154,7 +125,7 @@ pub extern "C" fn pintlecup_count(state: &Held) -> u32
     ensures { λ r. ⌜ r ≡ countOf (now (state .entry) .marks) ⌝ }
 {
     let h = *state;
-    values::count(h)
+    held::count(h)
 }
 
 // The smallest address that is not in use, with 0; or 9 where there is none, and the lent address is left.
@@ -165,7 +136,7 @@ pub extern "C" fn pintlecup_lowest_free(state: &Held, address: &mut usize) -> u8
 {
     let h = *state;
     let a = *address;
-    let lowest = values::lowest_free(h, a);
+    let lowest = held::lowest_free(h, a);
     *address = lowest.address;
     lowest.number
 }
@@ -192,7 +163,7 @@ pub extern "C" fn pintlecup_pack(filter: &Fields, out: &mut [u8]) -> u8
     ensures { λ r. ⌜ filled r (now (out .exit)) ≡ packOf (recordOf (now (filter .entry))) (now (out .entry)) ⌝ }
 {
     let f = *filter;
-    values::pack(f, out)
+    held::pack(f, out)
 }
 
 // Unpacks 28 bytes into a filter record; zero in every field where they are refused.
@@ -200,7 +171,7 @@ pub extern "C" fn pintlecup_pack(filter: &Fields, out: &mut [u8]) -> u8
 pub extern "C" fn pintlecup_unpack(bytes: &[u8], filter: &mut Fields) -> u8
     ensures { λ r. ⌜ (r ≡ unpackOf (now (bytes .entry)) .number) × (now (filter .exit) ≡ fieldsOf (unpackOf (now (bytes .entry)) .filter)) ⌝ }
 {
-    let unpacked = values::unpack(bytes);
+    let unpacked = held::unpack(bytes);
     *filter = unpacked.fields;
     unpacked.number
 }
@@ -212,5 +183,5 @@ pub extern "C" fn pintlecup_compare(held: &Fields, offered: &Fields) -> u8
 {
     let h = *held;
     let o = *offered;
-    values::compare(h, o)
+    held::compare(h, o)
 }

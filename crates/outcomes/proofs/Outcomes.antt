@@ -81,6 +81,7 @@ outcomes = record {
   agrees = record { any = λ κs a. tt; one = λ κs a r r′ l l′. plain };
   opened = record { any = λ κs a. tt; one = λ κs a r r′ l l′. plain };
   close = record { any = λ κs a. tt; one = λ κs a r r′ l l′. plain };
+  reason = record { any = λ κs a. tt; one = λ κs a r r′ l l′. plain };
   decimal = record { any = λ κs a. tt; one = λ κs a r r′ l l′. plain };
   hex = record { any = λ κs a. tt; one = λ κs a r r′ l l′. plain };
   put = record { any = λ κs a. tt; one = λ κs a r r′ l l′. again place (λ y. (y .bytes, (tt, (tt, tt)))) };

@@ -52,6 +52,7 @@ use Rattle.multiset.proofs.same as Same
 use Rattle.periods.proofs.agrees as Agrees
 use Rattle.periods.proofs.opened as Opened
 use Rattle.periods.proofs.close as Close
+use Rattle.periods.proofs.reason as Reason
 use Rattle.text.proofs.decimal as Decimal
 use Rattle.text.proofs.hex as Hex
 use Rattle.page.proofs.put as Put
@@ -124,6 +125,7 @@ pub record Outcomes : Type 1 where
   pub agrees : Tight Agrees.ended Agrees.Reads.Asked Agrees.Reads.Learnt
   pub opened : Tight Opened.ended Opened.Reads.Asked Opened.Reads.Learnt
   pub close : Tight Close.ended Close.Reads.Asked Close.Reads.Learnt
+  pub reason : Tight Reason.ended Reason.Reads.Asked Reason.Reads.Learnt
   -- the bench's library
   pub decimal : Tight Decimal.ended Decimal.Reads.Asked Decimal.Reads.Learnt
   pub hex : Tight Hex.ended Hex.Reads.Asked Hex.Reads.Learnt

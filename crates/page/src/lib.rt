@@ -1,7 +1,6 @@
 // A page: a lent buffer that is written piece by piece. Each call writes from a place on, as much as fits, and gives the place after it.
 ghost use mathlib.Core.Path.{_≡_};
-ghost use Prim.Native.Nat.{_+_, _<_};
-ghost use lib.ListN.{length};
+ghost use Prim.Native.Nat.{_<_};
 ghost use Rattle.text.specs.Text.{decimal, glyph, hex};
 ghost use Rattle.page.specs.Page.{page, write};
 
@@ -20,26 +19,20 @@ pub fn put(out: &mut [u8], at: usize, bytes: &[u8]) -> usize
     end
 }
 
-// Writes a number in decimal.
-pub fn put_decimal(out: &mut [u8], at: usize, n: u8) -> usize
+// Writes a number in decimal. The last digit is found first.
+pub fn put_decimal(out: &mut [u8], at: usize, n: u16) -> usize
     ensures { λ r. ⌜ page (now (out .exit)) r ≡ write (page (now (out .entry)) at) (decimal n) ⌝ }
 {
-    let digits = [b'0' + n / 100, b'0' + n / 10 % 10, b'0' + n % 10];
-    let from = leading(n);
+    let mut digits = [b'0'; 5];
+    let mut from: usize = 4;
+    let mut left = n;
+    while left > 9 {
+        digits[from] = b'0' + (left % 10) as u8;
+        left = left / 10;
+        from -= 1;
+    }
+    digits[from] = b'0' + left as u8;
     put(out, at, &digits[from..])
-}
-
-// How many of a number's three digits are leading zeros.
-fn leading(n: u8) -> usize
-    ensures { λ r. ⌜ r + length (decimal n) ≡ 3 ⌝ }
-{
-    if n < 10 {
-        return 2;
-    }
-    if n < 100 {
-        return 1;
-    }
-    0
 }
 
 // Writes a byte in two hex digits.

@@ -1,9 +1,10 @@
-// How a period of the trusted state ends: whether its hashes agree, the state of a new period, and the state closed.
+// How a period of the trusted state ends: whether its hashes agree, and why a check rejects; the state of a new period, and the state closed.
 use state::Hash;
 use state::State;
+use state::Verdict;
 ghost use mathlib.Core.Path.{_≡_};
 ghost use Rattle.state.specs.TakePut.{close};
-ghost use Rattle.state.specs.Check.{opened, agrees};
+ghost use Rattle.state.specs.Check.{opened, agrees, reason};
 
 // Is no fault marked, and are the hashes equal. The mark is no secret and stands first: where it is set the hashes are not looked at.
 pub fn agrees(s: State) -> bool
@@ -12,6 +13,16 @@ pub fn agrees(s: State) -> bool
     let p = s.put;
     let t = s.take;
     !s.fault && multiset::same(p, t)
+}
+
+// Why a check rejects, by the state after its takes: the first stamp that was ahead of the clock, if there was one, and else the tags.
+pub fn reason(s: State) -> Verdict
+    ensures { λ r. ⌜ r ≡ reason s ⌝ }
+{
+    if s.fault {
+        return Verdict::Stamp(s.first);
+    }
+    Verdict::Tag
 }
 
 // A new period: empty hashes, and the clock at 1.

@@ -2,31 +2,39 @@
 -- proved where their definitions stand. Assumes nothing.
 use borrow.Author.Tests.{eq-eqb, ne-eqb, lt-ltb}
 use mathlib.Core.Path.{_≡_, refl, sym, ap, _∙_}
-use mathlib.Core.Bool.{cond}
-use mathlib.Core.List.{List, [], _++_, append-nil}
+use mathlib.Core.Bool.{true, false, cond, true≢false}
+use mathlib.Core.List.{List, [], _∷_, _++_, append-nil}
+use mathlib.Core.Logic.{⊎-elim}
 use Prim.Native.Nat.{ℕ, _+_, _<_}
 use native.Mathlib.Omega.{arith}
 use lib.Dec.{eqb}
-use lib.ListN.{length, take, drop}
+use lib.ListN.{length, take, drop, replicate}
 use lib.Seq.{drop-length}
-use Rattle.octets.specs.Layout.{total, split, bytes}
+use Rattle.octets.specs.Layout.{total, split, number, bytes}
 use Rattle.refusal.specs.Refusal.{first}
 use Rattle.state.specs.Sizes.{width, addresses, valueSize, cellSize, storeSize, ceiling}
-use Rattle.state.specs.Marks.{used, countBelow, countOf, firstFrom, lowestFree}
-use Rattle.state.specs.Cells.{writeCell, writeEntry}
+use Rattle.state.specs.Marks.{used, usedBelow, inUse, countBelow, countOf, firstFrom, lowestFree}
+use Rattle.state.specs.Cells.{stampAt, entryAt, writeCell, writeEntry}
 use Rattle.state.specs.Multiset.{message}
 use Rattle.state.specs.Start.{sealed}
-use Rattle.state.specs.TakePut.{Outcome, next, withMarks, putEntry}
+use Rattle.state.specs.TakePut.{Outcome, next, withMarks, takeEntry, putEntry}
 use Rattle.state.specs.Access.{addRows, exchangeRows, removeRows, lookRows, call, added, addOf, loadOf, storeOf, removeOf, lookOf, lowestOf, freeNumber}
+use Rattle.state.specs.Check.{checkRows, taken, takeAll}
 use Rattle.state.specs.Table.{Marked}
+use Rattle.state.specs.Effects.{Typed, Rejected}
 use Rattle.state.specs.declared.State.{State}
+use Rattle.state.specs.declared.Verdict.the-variants.{Stamp}
 use Rattle.state.proofs.Multiset.{pairs}
 use Rattle.state.proofs.Ready.{call-done, call-refused, add-ready}
-use Rattle.state.proofs.Effects.{done-is}
+use Rattle.state.proofs.Joins.{taken-each}
+use Rattle.state.proofs.Guards.{says-stamp}
+use Rattle.state.proofs.Effects.{done-is, effects}
+use Rattle.run.specs.Calls.{outcomeOf}
+use Rattle.run.proofs.Exact.{check-number}
 use Rattle.entries.specs.Tag.{tag, tagOf}
 use Rattle.hmac.proofs.Answers.{hmac-length}
 use Rattle.promises.specs.Library.{library}
-use Rattle.promises.specs.Examples.{Sized, Example1, Example2, Example3, Example4, Example5, Example12, Example13, Example14, Examples}
+use Rattle.promises.specs.Examples.{Sized, Example1, Example2, Example3, Example4, Example5, Example12, Example13, Example14, ExampleMarked, ExampleFound, marking, Examples}
 use Rattle.promises.proofs.Filters.{example-6, example-7, example-8, example-9, example-10, example-11, example-unequal, example-host}
 
 example-3 : Example3 tag
@@ -87,6 +95,32 @@ example-5 s m v a z h u = (
       ap (λ (r : Outcome). r .seen .number) (call-refused (addRows width s m a v) s m [] (added width tag s m a v) (λ q. let y : 6 ≡ 0 = sym f ∙ q in absurd (omega arith))) ∙ f),
 )
 
+check-first : (s : State) (m : List ℕ) → s .closed ≡ false → length m ≡ 30720 → first (checkRows width s m) ≡ 0
+unfolding checkRows storeSize cellSize valueSize addresses
+check-first s m c l = rw (c, eq-eqb (length m) 30720 l)
+
+example-marked : ExampleMarked library
+unfolding takeAll
+example-marked s m c l f =
+    says-stamp width tag s m (check-first s m c l) (s .first) .1
+    (⊎-elim (λ k. (k .0, ⊎-elim (λ q. q .1) (λ q. absurd (true≢false (sym f ∙ q .0))) (k .1))) (λ k. absurd (true≢false (sym f ∙ k .1 .0))) (taken-each tag (taken width (s .marks) m) s .fault))
+
+-- a check that names an address leaves the state as it was, but closed
+named-left : (s : State) (m : List ℕ) (a : ℕ) → Typed s → first (checkRows width s m) ≡ 0 → library .store .check s m .verdict ≡ Stamp a → Rejected s m (library .store .check s m)
+unfolding outcomeOf
+named-left s m a y e v =
+    ⊎-elim (λ k. let w = sym (k .0) ∙ v in let z : _≡_ {A = ℕ} 0 1 = cc in absurd (omega arith)) (λ k. k .2) (effects width tag .check s m y (check-number width tag s m e))
+
+example-found : ExampleFound library
+unfolding takeAll taken inUse usedBelow used addresses entryAt stampAt cellSize valueSize takeEntry
+example-found m l h =
+    let s = marking (4 ∷ replicate 15 0) in
+    let e = check-first s m refl l in
+    let late = lt-ltb 0 (number (take 2 (drop 88 m))) h in
+    let v = says-stamp width tag s m e 2 .1 (rw late, rw late) in
+    let r = named-left s m 2 (record { puts = omega arith; takes = omega arith; words = refl }) e v in
+    (v, r .fault, r .first, r .closed)
+
 pub examples : Examples tag library
 examples = record {
   cell-0 = example-1;
@@ -105,4 +139,6 @@ examples = record {
   twins = example-14;
   unequal-lengths = example-unequal;
   host = example-host;
+  fault-marked = example-marked;
+  fault-found = example-found;
 }

@@ -17,19 +17,19 @@ use Rattle.state.specs.Sizes.{addresses}
 use Rattle.state.specs.Marks.{used, inUse, countOf}
 use Rattle.state.specs.TakePut.{Seen}
 use Rattle.state.specs.Access.{lowestOf, freeNumber, freeAddress}
-use Rattle.state.specs.Check.{verdictNumber, verdictAccepts}
+use Rattle.state.specs.Check.{verdictNumber, verdictAccepts, verdictAddress}
 use Rattle.state.specs.declared.State.{State}
 use Rattle.state.specs.declared.Free.{Free}
-use Rattle.state.specs.declared.Free.the-variants.{At, Full as AllUsed}
+use Rattle.state.specs.declared.Free.the-variants.{At, Full}
 use Rattle.state.specs.declared.Verdict.{Verdict}
-use Rattle.state.specs.declared.Verdict.the-variants.{Accept, Reject, Nothing}
+use Rattle.state.specs.declared.Verdict.the-variants.{Accept, Stamp, Tag, Nothing}
 use Rattle.state.proofs.Table.{table}
 use Rattle.state.proofs.Marked.{marked-used, used-marks, unset}
 use Rattle.marks.proofs.Sets.{count-length, lowest-at, lowest-full}
 use Rattle.entries.specs.Tag.{tag}
 use Rattle.filter.proofs.Numbers.{numbers}
 use Rattle.promises.specs.Library.{library}
-use Rattle.promises.specs.FirstDemand.{Asks, Full, Lowest, FirstDemand}
+use Rattle.promises.specs.FirstDemand.{Asks, AllInUse, Lowest, FirstDemand}
 
 asks : Asks
 asks = record {
@@ -59,11 +59,11 @@ module _ (s : State) (m : List ℕ) where
   quiet : x .number ≢ 0 → x .verdict ≡ Nothing
   quiet h = table 2 tag .check s m .unchanged h .3
 
-  said : (p : Verdict → Type 0) → p Accept → p Reject → x .number ≡ 0 → p (x .verdict)
-  said p a r e = ⊎-elim (λ v. subst p (sym v) a) (λ v. subst p (sym v) r) (table 2 tag .check-says s m e)
+  said : (p : Verdict → Type 0) → p Accept → p Tag → ((a : ℕ) → p (Stamp a)) → x .number ≡ 0 → p (x .verdict)
+  said p a t f e = ⊎-elim (λ v. subst p (sym v) a) (⊎-elim (λ v. subst p (sym v) t) (λ v. subst p (sym (v .1)) (f (v .0)))) (table 2 tag .check-says s m e)
 
   check-number : (x .number ≡ 0) ↔ (verdictNumber (x .verdict) ≡ some 0)
-  check-number = (said (λ (v : Verdict). verdictNumber v ≡ some 0) refl refl, λ e. go (x .number) refl e)
+  check-number = (said (λ (v : Verdict). verdictNumber v ≡ some 0) refl refl (λ a. refl), λ e. go (x .number) refl e)
     where
       go : (n : ℕ) → x .number ≡ n → verdictNumber (x .verdict) ≡ some 0 → x .number ≡ 0
       go zero q e = q
@@ -79,8 +79,18 @@ module _ (s : State) (m : List ℕ) where
     λ e z.
         said (λ (v : Verdict). verdictAccepts v ≡ none → ⊥)
         (λ w. let y : _≡_ {A = ℕ} 0 1 = cc in absurd (omega arith))
-        (λ w. let y : _≡_ {A = ℕ} 0 1 = cc in absurd (omega arith)) z e,
+        (λ w. let y : _≡_ {A = ℕ} 0 1 = cc in absurd (omega arith))
+        (λ a w. let y : _≡_ {A = ℕ} 0 1 = cc in absurd (omega arith)) z e,
   )
+
+check-address : (v : Verdict) (a : ℕ) → (verdictAddress v ≡ some a) ↔ (v ≡ Stamp a)
+check-address v a = (go v, ap verdictAddress)
+  where
+    go : (v : Verdict) → verdictAddress v ≡ some a → v ≡ Stamp a
+    go (Stamp b) e = cc
+    go Accept e = let y : _≡_ {A = ℕ} 0 1 = cc in absurd (omega arith)
+    go Tag e = let y : _≡_ {A = ℕ} 0 1 = cc in absurd (omega arith)
+    go Nothing e = let y : _≡_ {A = ℕ} 0 1 = cc in absurd (omega arith)
 
 -- ---- count and lowest free
 
@@ -88,12 +98,12 @@ count : (s : State) → countOf (s .marks) ≡ length (inUse (s .marks))
 unfolding countOf inUse
 count s = count-length (s .marks) addresses
 
-lowest-number : (s : State) → FirstOf (given 9 (Full s) ∷ []) (freeNumber (lowestOf (s .marks)))
+lowest-number : (s : State) → FirstOf (given 9 (AllInUse s) ∷ []) (freeNumber (lowestOf (s .marks)))
 unfolding freeNumber addresses
 lowest-number s = go (lowestOf (s .marks)) refl
   where
-    go : (f : Free) → lowestOf (s .marks) ≡ f → (Full s × (freeNumber f ≡ 9)) ⊎ ((Full s → ⊥) × (freeNumber f ≡ 0))
-    go AllUsed e = inl ((λ a h. used-marks s a (lowest-full (s .marks) .0 e a h)), refl)
+    go : (f : Free) → lowestOf (s .marks) ≡ f → (AllInUse s × (freeNumber f ≡ 9)) ⊎ ((AllInUse s → ⊥) × (freeNumber f ≡ 0))
+    go Full e = inl ((λ a h. used-marks s a (lowest-full (s .marks) .0 e a h)), refl)
     go (At b) e =
         inr (
           (λ f.
@@ -124,7 +134,7 @@ lowest-address s a = (
   where
     at-address : (f : Free) → freeAddress f ≡ some a → f ≡ At a
     at-address (At b) e = cc
-    at-address AllUsed e = let y : _≡_ {A = ℕ} 0 1 = cc in absurd (omega arith)
+    at-address Full e = let y : _≡_ {A = ℕ} 0 1 = cc in absurd (omega arith)
 
 -- ---- digest and HMAC
 
@@ -141,6 +151,7 @@ first-demand = record {
   table = table 2 tag;
   check-number = check-number;
   check-verdict = check-verdict;
+  check-address = check-address;
   count = count;
   lowest-number = lowest-number;
   lowest-address = lowest-address;

@@ -4,9 +4,9 @@ use Rattle.refusal.proofs.Passed.{done-zero, done-other}
 use Rattle.state.specs.Sizes.{addresses, valueSize, cellSize, storeSize, width}
 use Rattle.state.proofs.Ready.{look-done}
 use Rattle.state.proofs.Table.{look-first, look-other}
-use Rattle.exports.specs.Held.{stateOf}
-use Rattle.exports.specs.Answers.{lookAnswer}
-use Rattle.exports.proofs.Same.{same}
+use Rattle.held.specs.Held.{stateOf}
+use Rattle.held.specs.Answers.{lookAnswer}
+use Rattle.held.proofs.Same.{same}
 use Rattle.entries.specs.Tag.{tag}
 use Rattle.promises.specs.Library.{library}
 use Rattle.promises.specs.InC.{InC}

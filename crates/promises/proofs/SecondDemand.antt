@@ -18,7 +18,9 @@ use Rattle.state.proofs.Effects.{effects}
 use Rattle.entries.specs.Tag.{tagOf, tag}
 use Rattle.filter.proofs.Trips.{one-to-one}
 use Rattle.going.proofs.Compares.{compared}
-use Rattle.run.proofs.Exact.{one-period, state-exact, check-exact}
+use Rattle.run.proofs.Exact.{one-period, state-exact, check-exact, reason-exact}
+use Rattle.run.proofs.First.{first-address, stamp-below}
+use Rattle.run.proofs.Counted.{puts-counted, numbers-agree}
 use Rattle.promises.specs.Library.{library}
 use Rattle.promises.specs.SecondDemand.{SecondDemand}
 use Rattle.promises.proofs.Filters.{zeros-lawful}
@@ -44,8 +46,13 @@ second-demand = record {
   same-hash = λ seal. same-counts (tag seal);
   effects = effects 2 tag;
   check-exactly = check-exact 2 tag;
+  reason-exactly = reason-exact 2 tag;
+  stamp-below = stamp-below 2 tag;
+  first-address = first-address 2 tag;
   state-exactly = state-exact 2 tag;
   one-period = one-period;
+  puts-counted = puts-counted 2 tag;
+  numbers-agree = numbers-agree 2 tag;
   filters = one-to-one;
   zeros-lawful = zeros-lawful;
   comparison = compared;

@@ -1,11 +1,11 @@
 -- 01, "The examples that are proved": all fourteen under one claim. Each speaks of what the library's calls give, and holds for all that it leaves open.
 -- Assumes nothing.
 use mathlib.Core.Path.{_≡_}
-use mathlib.Core.Bool.{false}
+use mathlib.Core.Bool.{true, false}
 use mathlib.Core.List.{List, [], _∷_, _++_}
 use Prim.Native.Nat.{ℕ, _+_, _-_, _^_, _<_}
 use lib.ListN.{length, take, drop, replicate}
-use Rattle.octets.specs.Layout.{bytes}
+use Rattle.octets.specs.Layout.{number, bytes}
 use Rattle.state.specs.Cells.{Entry, entry}
 use Rattle.state.specs.Multiset.{hash}
 use Rattle.state.specs.Start.{sealed}
@@ -14,6 +14,7 @@ use Rattle.state.specs.Table.{Marked, zeroHash}
 use Rattle.state.specs.declared.Seal.{Seal}
 use Rattle.state.specs.declared.State.{State}
 use Rattle.state.specs.declared.Free.the-variants.{At, Full}
+use Rattle.state.specs.declared.Verdict.the-variants.{Stamp}
 use Rattle.hmac.specs.Hmac.{hmac}
 use Rattle.promises.specs.Library.{Library}
 use Rattle.promises.specs.Filters.{Example6, Example7, Example8, Example9, Example10, Example11, ExampleUnequal, ExampleHost}
@@ -24,7 +25,7 @@ full = 2 ^ 64 - 1
 
 -- a state of zeros with these marks
 abbrev pub marking : List ℕ → State
-marking ws = record { seal = record { key = replicate 32 0 }; put = zeroHash; take = zeroHash; clock = 0; fault = false; closed = false; marks = ws }
+marking ws = record { seal = record { key = replicate 32 0 }; put = zeroHash; take = zeroHash; clock = 0; fault = false; first = 0; closed = false; marks = ws }
 
 -- the state is open, the store and the value have their sizes
 pub record Sized (s : State) (m v : List ℕ) : Type 0 where
@@ -63,6 +64,17 @@ module _ (l : Library) where
   abbrev pub Example13 : Type 0
   Example13 = (l .store .count (marking (replicate 16 full)) ≡ 1024) × (l .store .lowest-free (marking (replicate 16 full)) ≡ Full) × (freeNumber Full ≡ 9)
 
+  -- a fault that is marked: the check names the address that the state has, whatever the store holds
+  abbrev pub ExampleMarked : Type 0
+  ExampleMarked = (s : State) (m : List ℕ) → s .closed ≡ false → length m ≡ 30720 → s .fault ≡ true → l .store .check s m .verdict ≡ Stamp (s .first)
+
+  -- address 2 in use at clock 0, and its stamp, bytes 88 and 89, not 0: the check names 2, and in the state the fault and its address are as they were, and it is
+  -- closed
+  abbrev pub ExampleFound : Type 0
+  ExampleFound = (m : List ℕ) → length m ≡ 30720 → 0 < number (take 2 (drop 88 m))
+      → (l .store .check (marking (4 ∷ replicate 15 0)) m .verdict ≡ Stamp 2) × (l .store .check (marking (4 ∷ replicate 15 0)) m .state .fault ≡ false)
+      × (l .store .check (marking (4 ∷ replicate 15 0)) m .state .first ≡ 0) × (l .store .check (marking (4 ∷ replicate 15 0)) m .state .closed ≡ true)
+
 module _ (tag : Seal → Entry → List ℕ) where
   -- 3. address 5, stamp 3, a zero value: message 01 00 05, 28 zeros, 00 03
   abbrev pub Example3 : Type 0
@@ -72,7 +84,7 @@ module _ (tag : Seal → Entry → List ℕ) where
   abbrev pub Example14 : Type 0
   Example14 = (seal : Seal) (x y : Entry) → hash (tag seal) (x ∷ x ∷ []) ≡ hash (tag seal) (y ∷ y ∷ [])
 
--- all fourteen, and two more of filter records
+-- all fourteen, two more of filter records, and two of what a check names
 pub record Examples (tag : Seal → Entry → List ℕ) (l : Library) : Type 0 where
   -- 1. cell 0
   pub cell-0 : Example1 l
@@ -105,3 +117,6 @@ pub record Examples (tag : Seal → Entry → List ℕ) (l : Library) : Type 0 w
   -- lengths that differ, each in its own place; and a whole IPv4 address
   pub unequal-lengths : ExampleUnequal (l .pack) (l .unpack)
   pub host : ExampleHost (l .pack) (l .unpack)
+  -- a stamp ahead of the clock that a call found, and one that the check itself finds
+  pub fault-marked : ExampleMarked l
+  pub fault-found : ExampleFound l

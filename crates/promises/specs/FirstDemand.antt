@@ -15,9 +15,11 @@ use denote.Triple.Clauses.{Ended}
 use Rattle.refusal.specs.Cases.{given, FirstOf}
 use Rattle.state.specs.Marks.{inUse}
 use Rattle.state.specs.Access.{freeNumber, freeAddress}
-use Rattle.state.specs.Check.{verdictNumber, verdictAccepts}
+use Rattle.state.specs.Check.{verdictNumber, verdictAccepts, verdictAddress}
 use Rattle.state.specs.Table.{Marked, Table}
 use Rattle.state.specs.declared.State.{State}
+use Rattle.state.specs.declared.Verdict.{Verdict}
+use Rattle.state.specs.declared.Verdict.the-variants.{Stamp}
 use Rattle.filter.specs.Promises.{Numbers}
 use Rattle.state.proofs.State.start as Start
 use Rattle.store.proofs.add as Add
@@ -59,8 +61,8 @@ pub record Asks : Type 1 where
   pub bench : OfAll Bench.ended Bench.Reads.Asked
 
 -- every address is in use
-abbrev pub Full : State → Type 0
-Full s = (a : ℕ) → a < 1024 → Marked s a
+abbrev pub AllInUse : State → Type 0
+AllInUse s = (a : ℕ) → a < 1024 → Marked s a
 
 -- a is the smallest address that is not in use
 pub record Lowest (s : State) (a : ℕ) : Type 0 where
@@ -72,12 +74,13 @@ pub record FirstDemand (l : Library) : Type 1 where
   pub asks : Asks
   -- the calls of the store: a cell has 30 bytes, a store 30,720, and 65,535 is the last clock
   pub table : Table 30 30720 65535 (l .store)
-  -- a check has a verdict exactly where it is done
+  -- a check has a verdict exactly where it is done, and a verdict an address exactly where it is a reject for a stamp
   pub check-number : (s : State) (m : List ℕ) → (l .store .check s m .number ≡ 0) ↔ (verdictNumber (l .store .check s m .verdict) ≡ some 0)
   pub check-verdict : (s : State) (m : List ℕ) → (l .store .check s m .number ≢ 0) ↔ (verdictAccepts (l .store .check s m .verdict) ≡ none)
+  pub check-address : (v : Verdict) (a : ℕ) → (verdictAddress v ≡ some a) ↔ (v ≡ Stamp a)
   -- count and lowest free: how many addresses are in use; the smallest that is not, and 9 where there is none
   pub count : (s : State) → l .store .count s ≡ length (inUse (s .marks))
-  pub lowest-number : (s : State) → FirstOf (given 9 (Full s) ∷ []) (freeNumber (l .store .lowest-free s))
+  pub lowest-number : (s : State) → FirstOf (given 9 (AllInUse s) ∷ []) (freeNumber (l .store .lowest-free s))
   pub lowest-address : (s : State) (a : ℕ) → (freeAddress (l .store .lowest-free s) ≡ some a) ↔ Lowest s a
   -- digest and HMAC
   pub digest : (m out : List ℕ) → FirstOf (given 10 ((8192 < length m) ⊎ (length out ≢ 32)) ∷ []) (l .digest m out .number)

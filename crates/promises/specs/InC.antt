@@ -1,6 +1,6 @@
 -- The tie of the calls under C names. A function that is lent a struct has its contract in the toolchain's program logic alone: there, in every model, what it
 -- ensures is a plain claim (`fact`), and here is which: that what the caller holds after the call stands for what the library `l` gives. The answers' numbers are
--- in `exports/specs/Answers.antt`. Assumes nothing.
+-- in `held/specs/Answers.antt`. Assumes nothing.
 use mathlib.Core.Path.{_≡_}
 use mathlib.Core.List.{[]}
 use mathlib.Core.Logic.{_⊎_, _≢_}
@@ -19,10 +19,10 @@ use denote.Triple.Entry.{Args, Res}
 use denote.Triple.Clauses.{Ended, AtExit}
 use Rattle.refusal.specs.Refusal.{filled}
 use Rattle.state.specs.Access.{freeNumber}
-use Rattle.exports.specs.Held.{stateOf, heldOf}
-use Rattle.exports.specs.Fields.{recordOf, fieldsOf}
-use Rattle.exports.specs.Answers.{left, inPlace, freeOr, goingAnswer}
-use Rattle.exports.specs.Same.{Same}
+use Rattle.held.specs.Held.{stateOf, heldOf}
+use Rattle.held.specs.Fields.{recordOf, fieldsOf}
+use Rattle.held.specs.Answers.{left, inPlace, stampOr, freeOr, goingAnswer}
+use Rattle.held.specs.Same.{Same}
 use Rattle.outcomes.specs.Exports.{InModels}
 use Rattle.exports.proofs.pintlecup_start as Start
 use Rattle.exports.proofs.pintlecup_add as Add
@@ -59,7 +59,8 @@ pub record InC (l : Library) : Type 2 where
   pub remove : TellsLent Remove.ended (λ M. Remove.clauses {M = M})
       (λ κs a r e. left r (now (e .0)) (now (e .1 .0)) [] ≡ inPlace (now (a .0)) (l .store .remove (stateOf (now (a .0))) (now (a .1 .0)) (a .1 .1 .0)))
   pub check : TellsLent Check.ended (λ M. Check.clauses {M = M})
-      (λ κs a r e. left r (now (e .0)) (now (e .1 .0)) [] ≡ inPlace (now (a .0)) (l .store .check (stateOf (now (a .0))) (now (a .1 .0))))
+      (λ κs a r e. (left r (now (e .0)) (now (e .1 .0)) [] ≡ inPlace (now (a .0)) (l .store .check (stateOf (now (a .0))) (now (a .1 .0))))
+      × (now (e .1 .1 .0) ≡ stampOr (now (a .1 .1 .0)) (l .store .check (stateOf (now (a .0))) (now (a .1 .0)) .verdict)))
   -- where the value begins, and a store's size where a look is refused
   pub look : Tells Look.ended Look.Reads.Learnt (λ κs a r e. length (now (a .0)) ≡ 30720 → a .1 .0 < 1024 → r ≡ 30 * a .1 .0)
   pub look-refused : Tells Look.ended Look.Reads.Learnt (λ κs a r e. (length (now (a .0)) ≢ 30720) ⊎ (1023 < a .1 .0) → r ≡ 30720)
@@ -72,5 +73,5 @@ pub record InC (l : Library) : Type 2 where
   pub unpack : TellsLent Unpack.ended (λ M. Unpack.clauses {M = M})
       (λ κs a r e. (r ≡ l .unpack (now (a .0)) .number) × (now (e .1 .0) ≡ fieldsOf (l .unpack (now (a .0)) .filter)))
   pub compare : TellsLent Compare.ended (λ M. Compare.clauses {M = M}) (λ κs a r e. r ≡ goingAnswer (l .compare (recordOf (now (a .0))) (recordOf (now (a .1 .0)))))
-  -- what is held in place stands for the state that the call gives, and a check answers 0 exactly where it accepts
+  -- what is held in place stands for the state that the call gives, and a check's answer and the address that it writes tell its verdict
   pub same : Same (l .store)

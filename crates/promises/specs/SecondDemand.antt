@@ -2,6 +2,9 @@
 -- nonce. A check accepts exactly when both hashes agree and no stamp ran ahead of the clock. A lawful filter record has one form of 28 bytes, and 28 lawful
 -- bytes give one filter record.
 --
+-- A later request, in our words: a check that rejects names the first take of its period whose stamp ran ahead of the clock, and the tags where none did. From a
+-- start the numbers of elements never differ at a check.
+--
 -- `sha256`, `hmac` and the layout of a filter record are definitions, in the standards' and the rules' order; here they are what the library's calls give.
 -- Assumes nothing.
 use mathlib.Core.Path.{_≡_}
@@ -21,7 +24,8 @@ use Rattle.state.specs.Effects.{Effects}
 use Rattle.state.specs.declared.Seal.{Seal}
 use Rattle.filter.specs.Promises.{OneToOne}
 use Rattle.going.specs.Going.{Compared}
-use Rattle.run.specs.Exact.{OnePeriod, StateExact, CheckExact}
+use Rattle.run.specs.Exact.{OnePeriod, StateExact, CheckExact, ReasonExact, FirstAddress, StampBelow}
+use Rattle.run.specs.Counted.{PutsCounted, NumbersAgree}
 use Rattle.promises.specs.Library.{Library}
 use Rattle.promises.specs.Filters.{ZerosLawful}
 
@@ -43,11 +47,18 @@ pub record SecondDemand (tag : Seal → Entry → List ℕ) (l : Library) : Type
   pub same-hash : (seal : Seal) (p t : List Entry) → ((e : Entry) → times e p ≡ times e t) → hash (tag seal) p ≡ hash (tag seal) t
   -- from any state: what each call that is done does with the hashes and all else, and which verdict a check gives
   pub effects : Effects 2 tag (l .store)
-  -- of whole runs: a check that is done accepts exactly when the hashes of its period agree and no stamp in it was ahead of the clock of its time; at any time
-  -- a state that is not closed tells as much of its period, of which there is one
+  -- of whole runs: a check that is done accepts exactly when the hashes of its period agree and no stamp in it was ahead of the clock of its time; else it names
+  -- the first take of its period that was ahead, at an address below 1,024, or the tags; at any time a state that is not closed tells as much of its period, of
+  -- which there is one
   pub check-exactly : CheckExact 2 tag
+  pub reason-exactly : ReasonExact 2 tag
+  pub stamp-below : StampBelow 2 tag
+  pub first-address : FirstAddress 2 tag
   pub state-exactly : StateExact 2 tag
   pub one-period : OnePeriod
+  -- the entries put in it are as many as those taken and the addresses in use together; so the element numbers never differ at a check
+  pub puts-counted : PutsCounted 2 tag
+  pub numbers-agree : NumbersAgree 2 tag
   -- filter records; length 0 and serial 0 are lawful; the comparison is exact
   pub filters : OneToOne (l .pack) (l .unpack)
   pub zeros-lawful : ZerosLawful (l .pack)

@@ -10,10 +10,11 @@ use Rattle.state.specs.Check.{checkRows, agrees, takes, puts, takeAll, acceptan
 use Rattle.state.specs.declared.Seal.{Seal}
 use Rattle.state.specs.declared.State.{State}
 use Rattle.state.specs.declared.Verdict.the-variants.{Accept}
+use Rattle.state.proofs.Guards.{reason-rejects}
 use Rattle.bag.proofs.Lists.{no-place}
 use Rattle.bag.proofs.Cases.{by-cond}
 use Rattle.run.specs.Calls.{Call, check, Made, made, outcomeOf, events}
-use Rattle.run.specs.Demand3.{stateAfter, result, eventsOf, Accepts}
+use Rattle.run.specs.Demand3.{stateAfter, result, eventsOf, upTo, Accepts}
 use Rattle.run.proofs.Does.{still, does}
 use Rattle.run.proofs.Steps.{by-rows}
 use Rattle.run.proofs.Runs.{CallOf, call-of}
@@ -24,7 +25,7 @@ pub accepts-gives : (w : ℕ) (tag : Seal → Entry → List ℕ) (s : State) (m
 unfolding outcomeOf checkOf acceptance rejection
 accepts-gives w tag s m =
     by-rows s m (λ (r : Outcome). r .seen .verdict ≡ Accept → r ≡ acceptance w tag s m) (checkRows w s m) [] _
-    (λ e. by-cond (λ (r : Outcome). r .seen .verdict ≡ Accept → r ≡ acceptance w tag s m) (agrees (takeAll w tag s m)) (λ k v. refl) (λ k v. let z : _≡_ {A = ℕ} 0 1 = cc in absurd (omega arith)))
+    (λ e. by-cond (λ (r : Outcome). r .seen .verdict ≡ Accept → r ≡ acceptance w tag s m) (agrees (takeAll w tag s m)) (λ k v. refl) (λ k v. reason-rejects (takeAll w tag s m) v))
     (λ n v. let z : _≡_ {A = ℕ} 0 1 = cc in absurd (omega arith))
 
 module _ (w : ℕ) (tag : Seal → Entry → List ℕ) (key : List ℕ) where
@@ -35,7 +36,7 @@ module _ (w : ℕ) (tag : Seal → Entry → List ℕ) (key : List ℕ) where
     pub bytes : List ℕ
     pub place : run ≡ before ++ (made check bytes ∷ later)
     pub accepts : Accepts w tag key before bytes
-    pub upTo : past ≡ eventsOf w tag key before ++ takes w (stateAfter w tag key before) bytes
+    pub upTo : past ≡ upTo w tag key before bytes
 
   pub accepted-check : (run : List Made) (past rest : List Event) → eventsOf w tag key run ≡ past ++ (accepted ∷ rest) → AcceptedCheck run past
   accepted-check run past rest e =

@@ -21,30 +21,31 @@ use Rattle.state.specs.declared.Verdict.the-variants.{Nothing}
 use Rattle.state.proofs.Cells.{value-length}
 use Rattle.state.proofs.Marks.{used-marked, used-unmarked, length-marked, length-unmarked}
 use Rattle.state.proofs.Ready.{Ready, add-ready, exchange-ready, remove-ready}
-use Rattle.bag.specs.Bag.{Bag, upd, noted}
+use Rattle.bag.specs.Bag.{Bag, upd, there, noted}
 use Rattle.bag.specs.Following.{Follows, Holds, InCell}
 use Rattle.bag.proofs.Unbroken.{unbroken}
-use Rattle.bag.proofs.Orderly.{there, none-some, upd-other, upd-here}
+use Rattle.bag.proofs.Orderly.{none-some, upd-other, upd-here}
 use Rattle.bag.proofs.Follows.{take-follows, put-follows}
 use Rattle.bag.proofs.Sizes.{taken-fits}
-use Rattle.bag.proofs.Walks.{held-some, held-none}
+use Rattle.bag.proofs.Cases.{there-some, there-none}
 use Rattle.bag.proofs.Stores.{take-holds, put-holds, free-holds}
 use Rattle.run.specs.Calls.{Call, add, load, store, remove}
 use Rattle.run.specs.Demand3.{Sets}
+use Rattle.run.proofs.Settled.{take-settles}
 use Rattle.run.proofs.Does.{Fit, Room, Kept, Does}
 
 -- ---- marks and what is held
 
 marks-follow : (tag : Seal → Entry → List ℕ) (seal : Seal) (s : State) (b : Bag) (ws : List ℕ) → Follows tag seal s b → Follows tag seal (withMarks s ws) b
 unfolding withMarks
-marks-follow tag seal s b ws f = record { seal = f .seal; put = f .put; take = f .take; clock = f .clock; fault = f .fault }
+marks-follow tag seal s b ws f = record { seal = f .seal; put = f .put; take = f .take; clock = f .clock; fault = f .fault; first = f .first }
 
 -- an address that is not in use holds nothing, and one in use something
 free : (s : State) (b : Bag) → Fit s b → (a : ℕ) → used (s .marks) a ≡ false → b .held a ≡ none
-free s b t a u = held-none (b .held a) (sym (t .marked a) ∙ u)
+free s b t a u = there-none (b .held a) (sym (t .marked a) ∙ u)
 
 held : (s : State) (b : Bag) → Fit s b → (a : ℕ) → used (s .marks) a ≡ true → (d : Entry) × (b .held a ≡ some d)
-held s b t a u = held-some (b .held a) (sym (t .marked a) ∙ u)
+held s b t a u = there-some (b .held a) (sym (t .marked a) ∙ u)
 
 -- an honest store has at an address in use what is held there
 held-there : (w : ℕ) (s : State) (b : Bag) (m : List ℕ) → Fit s b → Holds w b m → (a : ℕ) → used (s .marks) a ≡ true → b .held a ≡ some (entryAt w m a)
@@ -111,6 +112,7 @@ module _ (w : ℕ) (tag : Seal → Entry → List ℕ) (seal : Seal) (s : State)
         kept = λ r. kept-at s b t a (noted b (put d)) elsewhere (add a v) (add-sets a v) (λ c k. let z : some d ≡ some c = sym (upd-here (b .held) a (some d)) ∙ k in let y : d ≡ c = cc in inl (inl (ap (λ (g : Entry). add a (g .value)) y)));
         answers = λ n o q. let z : _≡_ {A = ℕ} 0 1 = cc in absurd (omega arith);
         accepts = λ x y q. absurd (unbroken (put d ∷ []) refl x y q);
+        settled = λ k. k;
       }
 
   -- ---- load and store: the cell of an address is taken, and a value put there
@@ -145,6 +147,7 @@ module _ (w : ℕ) (tag : Seal → Entry → List ℕ) (seal : Seal) (s : State)
               (λ d k. let z : some new ≡ some d = sym (upd-here (upd (b .held) a none) a (some new)) ∙ k in let y : new ≡ d = cc in subst (Kept b c a) y (here (r .0)));
           answers = λ n o q r. answer n o q (r .0);
           accepts = λ x y q. absurd (unbroken (took old ∷ put new ∷ []) refl x y q);
+          settled = take-settles w tag s old (p .below);
         }
 
   pub load-does : (a : ℕ) (o : List ℕ) → first (exchangeRows w s m a o) ≡ 0 → Does w tag seal s m b (load a o) (loaded w tag s m a)
@@ -180,4 +183,5 @@ module _ (w : ℕ) (tag : Seal → Entry → List ℕ) (seal : Seal) (s : State)
         kept = λ r. kept-at s b t a (noted b (took old)) elsewhere (remove a) (λ n u h. remove-sets a n u h) (λ d k. none-some (upd-here (b .held) a none) k);
         answers = λ n o q. let z : _≡_ {A = ℕ} 0 1 = cc in absurd (omega arith);
         accepts = λ x y q. absurd (unbroken (took old ∷ []) refl x y q);
+        settled = take-settles w tag s old (p .below);
       }

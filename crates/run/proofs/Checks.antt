@@ -20,14 +20,14 @@ use Rattle.state.specs.declared.State.{State}
 use Rattle.state.proofs.Ready.{check-ready}
 use Rattle.state.proofs.Marks.{used-below}
 use Rattle.state.proofs.Guards.{opens}
-use Rattle.bag.specs.Bag.{Bag, empty, noted, follow}
+use Rattle.bag.specs.Bag.{Bag, empty, there, noted, follow}
 use Rattle.bag.specs.Law.{Along, Bare, May, Lawful, TakesHeld, Right}
-use Rattle.bag.specs.Following.{Follows, Holds, PutFits, Bytes, TakeFits}
+use Rattle.bag.specs.Following.{faultAddress, Follows, Holds, PutFits, Bytes, TakeFits}
 use Rattle.bag.proofs.Lists.{place-in}
 use Rattle.bag.proofs.Cases.{by-cond}
 use Rattle.bag.proofs.Unbroken.{Unbroken, unbroken, takes-plain, puts-plain}
 use Rattle.bag.proofs.Along.{along-append, along-split, along-map}
-use Rattle.bag.proofs.Orderly.{there, none-some}
+use Rattle.bag.proofs.Orderly.{none-some}
 use Rattle.bag.proofs.Faults.{calm-before}
 use Rattle.bag.proofs.Follows.{opened-follows, takes-follow, puts-follow, verdict}
 use Rattle.bag.proofs.Stores.{takes-hold, puts-hold}
@@ -35,6 +35,7 @@ use Rattle.bag.proofs.Addresses.{among, Distinct, in-use, in-use-distinct}
 use Rattle.bag.proofs.Walks.{takes-lawful, takes-right, right-held, takes-bare, takes-fit, puts-lawful, puts-held, puts-fit}
 use Rattle.run.specs.Calls.{check}
 use Rattle.run.specs.Demand3.{Sets}
+use Rattle.run.proofs.Settled.{Settled}
 use Rattle.run.proofs.Does.{Fit, Room, Kept, Does}
 
 check-sets : (n : ℕ) (u : List ℕ) {A : Type 0} → Sets check n u → A
@@ -99,6 +100,7 @@ module _ (w : ℕ) (tag : Seal → Entry → List ℕ) (seal : Seal) (s : State)
         kept = λ r a e k. none-some (taken-bare a) k;
         answers = λ n o q. let z : _≡_ {A = ℕ} 0 1 = cc in absurd (omega arith);
         accepts = λ x y q. absurd (taken-unbroken x y q);
+        settled = λ k. k;
       }
 
   -- ---- an accepted one
@@ -112,7 +114,7 @@ module _ (w : ℕ) (tag : Seal → Entry → List ℕ) (seal : Seal) (s : State)
     unfolding noted
     opens-empty = foldl-append noted b (takes w s m) (accepted ∷ puts w s m)
 
-    accepts-exactly : (hash (tag seal) (follow b (takes w s m) .puts) ≡ hash (tag seal) (follow b (takes w s m) .takes)) × (follow b (takes w s m) .fault ≡ false)
+    accepts-exactly : (hash (tag seal) (follow b (takes w s m) .puts) ≡ hash (tag seal) (follow b (takes w s m) .takes)) × (follow b (takes w s m) .fault ≡ none)
     accepts-exactly = verdict tag seal (takeAll w tag s m) (follow b (takes w s m)) taken-follows .0 agreed
 
     accepted-lawful : Lawful (tag seal) b all
@@ -124,8 +126,9 @@ module _ (w : ℕ) (tag : Seal → Entry → List ℕ) (seal : Seal) (s : State)
     accepted-follows : Follows tag seal (putAll w tag s m) (follow b all)
     unfolding takes puts putAll
     accepted-follows =
+        let calm = calm-before b (takes w s m) taken-unbroken (accepts-exactly .1) in
         subst (Follows tag seal (putAll w tag s m)) (sym opens-empty)
-        (puts-follow tag seal (opened s) (empty 1) (reput w (s .marks) m) (opened-follows tag seal s (f .seal) (f .fault ∙ calm-before b (takes w s m) taken-unbroken (accepts-exactly .1))))
+        (puts-follow tag seal (opened s) (empty 1) (reput w (s .marks) m) (opened-follows tag seal s (f .seal) (f .fault ∙ ap there calm) (f .first ∙ ap faultAddress calm)))
 
     accepted-held : (a : ℕ) → follow b all .held a ≡ cond (used (s .marks) a) (some (opening w m a)) none
     unfolding puts reput
@@ -172,6 +175,9 @@ module _ (w : ℕ) (tag : Seal → Entry → List ℕ) (seal : Seal) (s : State)
         here [] g h = g ∙ append-nil (takes w s m)
         here (x ∷ d) g h = absurd (unbroken (puts w s m) (puts-plain (reput w (s .marks) m)) d q (tail-eq-of-cons-eq h))
 
+    accepted-settled : Settled s → Settled (putAll w tag s m)
+    accepted-settled k = let o = opens w tag s m in ((λ h. o .first ∙ k .0 (sym (o .fault) ∙ h)), subst (λ (n : ℕ). n < addresses) (sym (o .first)) (k .1))
+
     acceptance-does : Does w tag seal s m b check (acceptance w tag s m)
     unfolding acceptance takes puts noted
     acceptance-does =
@@ -186,6 +192,7 @@ module _ (w : ℕ) (tag : Seal → Entry → List ℕ) (seal : Seal) (s : State)
           kept = accepted-kept;
           answers = λ n o q. let z : _≡_ {A = ℕ} 0 1 = cc in absurd (omega arith);
           accepts = λ p q e. (refl, refl, accepted-place p q e);
+          settled = accepted-settled;
         }
 
   pub check-does : first (checkRows w s m) ≡ 0 → Does w tag seal s m b check (cond (agrees (takeAll w tag s m)) (acceptance w tag s m) (rejection w tag s m))

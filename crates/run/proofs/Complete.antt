@@ -2,7 +2,8 @@
 -- hashes equal and no stamp ahead. Assumes nothing.
 use mathlib.Core.Path.{_≡_, refl, sym, ap, _∙_, subst}
 use mathlib.Core.Bool.{false}
-use mathlib.Core.List.{List, [], _∷_, _++_, append-assoc, foldl-append}
+use mathlib.Core.Option.{none}
+use mathlib.Core.List.{List, [], _∷_, _++_, append-assoc}
 use mathlib.Core.Logic.{_⊎_, inl, inr}
 use Prim.Native.Nat.{ℕ, _≤_}
 use Rattle.state.specs.Cells.{Entry}
@@ -15,20 +16,20 @@ use Rattle.state.specs.declared.State.{State}
 use Rattle.state.proofs.Ready.{check-ready}
 use Rattle.state.proofs.Guards.{equal-accepts}
 use Rattle.state.proofs.Multiset.{same-counts}
-use Rattle.bag.specs.Bag.{empty, noted, follow}
-use Rattle.bag.specs.Law.{Bare, May, TakesHeld, Right}
+use Rattle.bag.specs.Bag.{empty, there, follow}
+use Rattle.bag.specs.Law.{Bare, TakesHeld, Right}
 use Rattle.bag.specs.Following.{Holds}
 use Rattle.bag.proofs.Lists.{place-stays}
 use Rattle.bag.proofs.Along.{along-append}
-use Rattle.bag.proofs.Orderly.{there, none-some, empty-orderly}
+use Rattle.bag.proofs.Orderly.{none-some, empty-orderly}
 use Rattle.bag.proofs.Complete.{complete}
 use Rattle.run.specs.Calls.{check, Made, made, outcomeOf}
-use Rattle.run.specs.Demand3.{stateAfter, result, eventsOf, Done, Accepts, Touches, Unaltered, EachCheck}
+use Rattle.run.specs.Demand3.{stateAfter, result, eventsOf, upTo, Done, Accepts, Touches, Unaltered, EachCheck}
 use Rattle.run.proofs.Does.{still, does}
-use Rattle.run.proofs.Checks.{taken-lawful, taken-right, taken-bare}
+use Rattle.run.proofs.Checks.{taken-right}
 use Rattle.run.proofs.Runs.{Left, lent-right}
 use Rattle.run.proofs.FromStart.{doneBy, bagOf, events-none, events-last, invariant, run-did, moves-does}
-use Rattle.run.proofs.Exact.{check-done, check-follows}
+use Rattle.run.proofs.Exact.{check-done, check-lawful, check-bare, check-follows}
 use Rattle.run.proofs.Sized.{run-room}
 
 module _ (w : ℕ) (one : 1 ≤ w) (tag : Seal → Entry → List ℕ) (key : List ℕ) where
@@ -65,33 +66,30 @@ module _ (w : ℕ) (one : 1 ≤ w) (tag : Seal → Entry → List ℕ) (key : Li
     s = stateAfter w tag key run
 
     abbrev all : List Event
-    all = eventsOf w tag key run ++ takes w s m
+    all = upTo w tag key run m
 
     unclosed : s .closed ≡ false
     unclosed = check-ready w s m (check-done w tag s m d) .0
 
-    all-complete : (follow (empty 0) all .fault ≡ false) × (Bare (follow (empty 0) all) → (c : Entry) → times c (follow (empty 0) all .puts) ≡ times c (follow (empty 0) all .takes))
+    all-complete : (follow (empty 0) all .fault ≡ none) × (Bare (follow (empty 0) all) → (c : Entry) → times c (follow (empty 0) all .puts) ≡ times c (follow (empty 0) all .takes))
     unfolding empty
     all-complete =
         let h = honest run (unaltered-part run (made check m ∷ []) u) in
         let k = invariant w tag key run .follows unclosed in
         let b = bagOf w tag key run in
-        complete (tag (sealed key)) (empty 0) all (empty-orderly 0) refl refl
-        (along-append (May (tag (sealed key))) (empty 0) (eventsOf w tag key run) (takes w s m) (invariant w tag key run .lawful) (taken-lawful w tag (sealed key) s m b (k .0) (k .1)))
+        complete (tag (sealed key)) (empty 0) all (empty-orderly 0) refl refl (check-lawful w tag key run m unclosed)
         (along-append TakesHeld (empty 0) (eventsOf w tag key run) (takes w s m) (h .0) (taken-right w tag (sealed key) s m b (k .0) (k .1) (lent-holds (run ++ (made check m ∷ [])) u run [] (made check m) refl (d, refl) (h .1))))
 
     -- what was put is what was taken
     pub check-even : (c : Entry) → times c (follow (empty 0) all .puts) ≡ times c (follow (empty 0) all .takes)
-    check-even =
-        let k = invariant w tag key run .follows unclosed in
-        all-complete .1 (subst Bare (sym (foldl-append noted (empty 0) (eventsOf w tag key run) (takes w s m))) (taken-bare w tag (sealed key) s m (bagOf w tag key run) (k .0) (k .1)))
+    check-even = all-complete .1 (check-bare w tag key run m unclosed)
 
     -- the second half
     pub complete-at : Accepts w tag key run m
     unfolding outcomeOf
     complete-at =
         let f = check-follows w tag key run m unclosed in
-        equal-accepts w tag s m (check-done w tag s m d) (f .put ∙ same-counts (tag (sealed key)) _ _ check-even ∙ sym (f .take)) (f .fault ∙ all-complete .0)
+        equal-accepts w tag s m (check-done w tag s m d) (f .put ∙ same-counts (tag (sealed key)) _ _ check-even ∙ sym (f .take)) (f .fault ∙ ap there (all-complete .0))
 
   pub complete-each : (run : List Made) → Unaltered w tag key run → EachCheck w tag key run
   complete-each run u before later m e d =

@@ -1,5 +1,5 @@
--- What a call has to show to be part of a run: that what it does is a lawful list of events, that the state and the marks follow it, that the store does where
--- it is honest, and how the values go on. All else that is proved of runs follows from it. Assumes nothing.
+-- What a call has to show to be part of a run: that what it does is a lawful list of events, that the state and the marks follow it, that its fault stays
+-- settled, that the store follows where it is honest, and how the values go on. All else that is proved of runs follows from it. Assumes nothing.
 use mathlib.Core.Path.{_≡_}
 use mathlib.Core.Bool.{true, false}
 use mathlib.Core.List.{List, [], _∷_, _++_}
@@ -15,12 +15,12 @@ use Rattle.state.specs.Check.{takes}
 use Rattle.state.specs.declared.Seal.{Seal}
 use Rattle.state.specs.declared.State.{State}
 use Rattle.state.specs.declared.Verdict.the-variants.{Accept, Nothing}
-use Rattle.bag.specs.Bag.{Bag, follow}
+use Rattle.bag.specs.Bag.{Bag, there, follow}
 use Rattle.bag.specs.Law.{Along, Lawful, Right}
 use Rattle.bag.specs.Following.{Follows, Holds, PutFits, Bytes, TakeFits}
-use Rattle.bag.proofs.Orderly.{there}
 use Rattle.run.specs.Calls.{Call, load, check, touches}
 use Rattle.run.specs.Demand3.{Sets}
+use Rattle.run.proofs.Settled.{Settled}
 
 -- an address is in use where an entry is held
 pub record Fit (s : State) (b : Bag) : Type 0 where
@@ -42,6 +42,7 @@ module _ (w : ℕ) (tag : Seal → Entry → List ℕ) (seal : Seal) (s : State)
     pub lawful : Lawful (tag seal) b (r .events)
     pub follows : r .seen .state .closed ≡ false → Follows tag seal (r .seen .state) (follow b (r .events))
     pub fit : r .seen .state .closed ≡ false → Fit (r .seen .state) (follow b (r .events))
+    pub settled : Settled s → Settled (r .seen .state)
     pub putFits : Room w b → Along (PutFits w) b (r .events)
     pub takeFits : Bytes m → Along (TakeFits w) b (r .events)
     pub honest : Room w b → Holds w b m → Right b (r .events) × Holds w (follow b (r .events)) (r .seen .store)

@@ -86,7 +86,7 @@ module _ (w : ℕ) (tag : Seal → Entry → List ℕ) where
         (λ e.
         record {
           lawful = tt;
-          follows = λ o. (record { seal = refl; put = sym (hash-none (tag (sealed key))); take = sym (hash-none (tag (sealed key))); clock = refl; fault = refl }, record { marked = fresh-unused; sixteen = refl });
+          follows = λ o. (record { seal = refl; put = sym (hash-none (tag (sealed key))); take = sym (hash-none (tag (sealed key))); clock = refl; fault = refl; first = refl }, record { marked = fresh-unused; sixteen = refl });
         })
         (λ e. record { lawful = tt; follows = λ o. absurd (true≢false o) })
 

@@ -1,3 +1,4 @@
+pub mod Settled
 pub mod Does
 pub mod Access
 pub mod Checks
@@ -7,10 +8,12 @@ pub mod Runs
 pub mod FromStart
 pub mod Periods
 pub mod Exact
+pub mod Counted
 pub mod Accepted
 pub mod Loads
 pub mod Sound
 pub mod Sized
+pub mod First
 pub mod Complete
 pub mod Demand3
 pub mod Sense

@@ -18,7 +18,7 @@ use Rattle.bag.proofs.Along.{along-append, along-map}
 use Rattle.bag.proofs.Orderly.{empty-orderly}
 use Rattle.bag.proofs.Sound.{sound-accepted}
 use Rattle.run.specs.Calls.{check, Made, made, events}
-use Rattle.run.specs.Demand3.{Differ, NoTwoAlike, putIn, takenIn, Since, stateAfter, eventsOf, EachLoad, Collision, LastAccepts}
+use Rattle.run.specs.Demand3.{Differ, NoTwoAlike, putIn, takenIn, Since, stateAfter, eventsOf, upTo, EachLoad, Collision, LastAccepts}
 use Rattle.run.proofs.FromStart.{events-last, invariant}
 use Rattle.run.proofs.Loads.{loads-right}
 use Rattle.run.proofs.Periods.{since-puts, since-takes, since-now}
@@ -69,7 +69,7 @@ module _ (w : ℕ) (tag : Seal → Entry → List ℕ) (key : List ℕ) where
       s = stateAfter w tag key before
 
       past : List Event
-      past = eventsOf w tag key before ++ takes w s m
+      past = upTo w tag key before m
 
       all : eventsOf w tag key run ≡ past ++ (accepted ∷ puts w s m)
       all =

@@ -1,4 +1,4 @@
--- Two runs worked out, with a tag that is easy to compute: each reply by computation. Assumes nothing.
+-- Four runs worked out, with a tag that is easy to compute: each reply by computation. Assumes nothing.
 use mathlib.Core.Path.{_≡_, refl}
 use mathlib.Core.List.{List, [], _∷_}
 use Prim.Native.Nat.{ℕ, _+_}
@@ -12,11 +12,11 @@ use Rattle.state.specs.Multiset.{emptyHash, withTag, sameHash}
 use Rattle.state.specs.Start.{fresh, startOf}
 use Rattle.state.specs.TakePut.{withMarks, close, next, takeEntry, putEntry}
 use Rattle.state.specs.Access.{addRows, exchangeRows, call, added, addOf, loaded, loadOf, stored, storeOf}
-use Rattle.state.specs.Check.{checkRows, taken, opening, reput, opened, agrees, takes, puts, writeAll, takeAll, putAll, acceptance, rejection, checkOf}
+use Rattle.state.specs.Check.{checkRows, taken, opening, reput, opened, agrees, reason, takes, puts, writeAll, takeAll, putAll, acceptance, rejection, checkOf}
 use Rattle.state.specs.declared.Seal.{Seal}
 use Rattle.state.specs.declared.State.{State}
 use Rattle.state.specs.declared.Verdict.{Verdict}
-use Rattle.state.specs.declared.Verdict.the-variants.{Accept, Reject, Nothing}
+use Rattle.state.specs.declared.Verdict.the-variants.{Accept, Stamp, Tag, Nothing}
 use Rattle.run.specs.Calls.{Call, add, load, store, check, Made, made, outcomeOf}
 
 toy : Seal → Entry → List ℕ
@@ -33,6 +33,9 @@ record Line : Type 0 where
 
 abbrev line : Call → Line
 line c = record { spoil = λ m. m; call = c }
+
+spoilt : ℕ → ℕ → ℕ → Call → Line
+spoilt a b t c = record { spoil = λ m. writeCell width m a (value b) t; call = c }
 
 lend : State → List ℕ → List Line → List Made
 lend s m [] = []
@@ -67,9 +70,19 @@ honest =
 -- the store hands back the cell that the add had left, with its stamp: the load gives the old value, the check rejects, and the next load is refused
 lied : List Line
 lied =
-    line (add 5 (value 0x41)) ∷ line (store 5 (value 0x42)) ∷ line (load 5 (value 0)) ∷ record { spoil = λ m. writeCell width m 5 (value 0x41) 1; call = load 5 (value 0) } ∷ line check ∷ line (load 5 (value 7)) ∷ []
+    line (add 5 (value 0x41)) ∷ line (store 5 (value 0x42)) ∷ line (load 5 (value 0)) ∷ spoilt 5 0x41 1 (load 5 (value 0)) ∷ line check ∷ line (load 5 (value 7)) ∷ []
+
+-- two loads find a stamp ahead of the clock: the check names the first of them, though the address of the second is lower
+ahead : List Line
+ahead = line (add 9 (value 0x41)) ∷ line (add 2 (value 0x42)) ∷ spoilt 9 0x41 7 (load 9 (value 0)) ∷ spoilt 2 0x42 8 (load 2 (value 0)) ∷ line check ∷ []
+
+-- the check itself finds one
+found : List Line
+found = line (add 9 (value 0x41)) ∷ line (add 2 (value 0x42)) ∷ spoilt 2 0x42 3 check ∷ []
 
 worked : (session honest ≡ reply 0 Nothing [] ∷ reply 0 Nothing [] ∷ reply 0 Nothing (0x42 ∷ []) ∷ reply 0 Accept [] ∷ reply 0 Nothing (0x42 ∷ []) ∷ reply 0 Accept [] ∷ [])
-    × (session lied ≡ reply 0 Nothing [] ∷ reply 0 Nothing [] ∷ reply 0 Nothing (0x42 ∷ []) ∷ reply 0 Nothing (0x41 ∷ []) ∷ reply 0 Reject [] ∷ reply 7 Nothing (7 ∷ []) ∷ [])
-unfolding honest lied session begin lend replies value toy outcomeOf total join split number bytes xor keySize addresses valueSize cellSize storeSize ceiling used marked valueAt stampAt entryAt writeCell writeEntry emptyHash withTag same sameHash fresh startOf withMarks close next takeEntry putEntry addRows exchangeRows call added addOf loaded loadOf stored storeOf checkRows usedBelow inUse taken opening reput opened agrees takes puts writeAll takeAll putAll acceptance rejection checkOf
-worked = (refl, refl)
+    × (session lied ≡ reply 0 Nothing [] ∷ reply 0 Nothing [] ∷ reply 0 Nothing (0x42 ∷ []) ∷ reply 0 Nothing (0x41 ∷ []) ∷ reply 0 Tag [] ∷ reply 7 Nothing (7 ∷ []) ∷ [])
+    × (session ahead ≡ reply 0 Nothing [] ∷ reply 0 Nothing [] ∷ reply 0 Nothing (0x41 ∷ []) ∷ reply 0 Nothing (0x42 ∷ []) ∷ reply 0 (Stamp 9) [] ∷ [])
+    × (session found ≡ reply 0 Nothing [] ∷ reply 0 Nothing [] ∷ reply 0 (Stamp 2) [] ∷ [])
+unfolding honest lied ahead found spoilt session begin lend replies value toy outcomeOf total join split number bytes xor keySize addresses valueSize cellSize storeSize ceiling used marked valueAt stampAt entryAt writeCell writeEntry emptyHash withTag same sameHash fresh startOf withMarks close next takeEntry putEntry addRows exchangeRows call added addOf loaded loadOf stored storeOf checkRows usedBelow inUse taken opening reput opened agrees reason takes puts writeAll takeAll putAll acceptance rejection checkOf
+worked = (refl, refl, refl, refl)

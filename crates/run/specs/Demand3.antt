@@ -89,6 +89,10 @@ module _ (w : ℕ) (tag : Seal → Entry → List ℕ) (key : List ℕ) where
   abbrev pub eventsOf : List Made → List Event
   eventsOf run = events w tag (startOf key .state) run
 
+  -- all that was done up to the verdict of a check: by the calls before it, and its own takes
+  abbrev pub upTo : List Made → List ℕ → List Event
+  upTo before m = eventsOf before ++ takes w (stateAfter before) m
+
   -- the call is not refused
   abbrev pub Done : List Made → Made → Type 0
   Done before x = result before x .seen .number ≡ 0
@@ -121,7 +125,7 @@ module _ (w : ℕ) (tag : Seal → Entry → List ℕ) (key : List ℕ) where
     pub place : run ≡ before ++ (made check bytes ∷ later)
     pub accepts : Accepts before bytes
     pub period : List Event
-    pub since : Since (eventsOf before ++ takes w (stateAfter before) bytes) period
+    pub since : Since (upTo before bytes) period
     pub alike : NoTwoAlike (putIn period)
     pub differ : Differ (putIn period) (takenIn period)
     pub equal : hash (tag (sealed key)) (putIn period) ≡ hash (tag (sealed key)) (takenIn period)

@@ -30,4 +30,4 @@ sessionOf input =
 
 -- the bytes of the buffer that a session is printed to
 abbrev pub room : ℕ
-room = 65536
+room = 131072

@@ -10,7 +10,7 @@ ghost use Rattle.session.specs.Session.{outputOf, sessionOf};
 pub const LIMIT: usize = 4096;
 
 // The buffer that holds whatever a session prints.
-pub const ROOM: usize = 65536;
+pub const ROOM: usize = 131072;
 
 // Runs a whole session: all that it prints is written to the head of `out`. Gives how much that is.
 pub fn run(input: &[u8], out: &mut [u8; ROOM]) -> usize

@@ -1,7 +1,7 @@
 -- Each call that is done takes and puts what is claimed, and a check's verdict is told by the entry state and the bytes. Assumes nothing.
 use mathlib.Core.Path.{_≡_, refl, sym, ap, ap₂, _∙_, subst}
 use mathlib.Core.Bool.{Bool, true, false, cond, false≢true}
-use mathlib.Core.List.{List, [], _∷_, _++_, map, foldl, List·Memᴰ, Memᴰ·map, Memᴰ·of-map}
+use mathlib.Core.List.{List, [], _∷_, _++_, map, foldl, List·Memᴰ, List·Memᴰ·head, Memᴰ·append-right, Memᴰ·map, Memᴰ·of-map}
 use mathlib.Core.Logic.{_⊎_, inl, inr, ⊎-elim, _↔_, _≢_}
 use Prim.Native.Nat.{ℕ, zero, suc, _+_, _*_, _%_, _^_, _<_, _≤_}
 use native.Mathlib.Nat.{zero-div}
@@ -18,14 +18,14 @@ use Rattle.state.specs.Cells.{Entry, entry, valueAt, stampAt, entryAt, w
 use Rattle.state.specs.Multiset.{emptyHash, withTag}
 use Rattle.state.specs.TakePut.{Seen, seen, Outcome, outcome, withMarks, close, next, takeEntry, putEntry}
 use Rattle.state.specs.Access.{addRows, exchangeRows, removeRows, call, added, loaded, stored, removed, addOf, loadOf, storeOf, removeOf}
-use Rattle.state.specs.Check.{checkRows, taken, opening, reput, opened, agrees, takeAll, putAll, acceptance, rejection, checkOf}
+use Rattle.state.specs.Check.{checkRows, taken, opening, reput, opened, agrees, reason, takeAll, putAll, acceptance, rejection, checkOf}
 use Rattle.state.specs.Calls.{calls}
 use Rattle.state.specs.Table.{Marked, zeroHash}
-use Rattle.state.specs.Effects.{Typed, Ahead, cellIn, valueIn, stampIn, entryIn, withCell, joined, After, takenOf, putOf, Agrees, Accepted, Rejected, Effects}
+use Rattle.state.specs.Effects.{Typed, SomeAhead, FoundAt, NoneFound, cellIn, valueIn, stampIn, entryIn, withCell, joined, After, takenOf, putOf, Agrees, Accepted, Reason, Rejected, Effects}
 use Rattle.state.specs.declared.Hash.{Hash}
 use Rattle.state.specs.declared.Seal.{Seal}
 use Rattle.state.specs.declared.State.{State}
-use Rattle.state.specs.declared.Verdict.the-variants.{Accept, Reject, Nothing}
+use Rattle.state.specs.declared.Verdict.the-variants.{Accept, Nothing}
 use Rattle.state.proofs.Cells.{cell-written, cell-other, value-length}
 use Rattle.state.proofs.InUse.{in-use-only, in-use-all, in-use-rising}
 use Rattle.state.proofs.Walks.{putBelow, write-all, puts-length}
@@ -150,42 +150,59 @@ module _ (w : ℕ) (tag : Seal → Entry → List ℕ) where
 
   -- what some bytes hold at an address, in the definitions' words
   module _ (s : State) (m : List ℕ) (y : Typed s) where
-    takes-told : taken w (s .marks) m ≡ takenOf w tag s m
+    takes-told : taken w (s .marks) m ≡ takenOf w s m
     unfolding taken entryAt valueAt stampAt cellSize valueSize
     takes-told = refl
 
-    all : Taken tag s (takeAll w tag s m) (takenOf w tag s m)
+    all : Taken tag s (takeAll w tag s m) (takenOf w s m)
     unfolding takeAll
-    all = subst (λ (es : List Entry). Taken tag s (foldl (takeEntry tag) s es) (takenOf w tag s m)) (sym takes-told) (taken-each tag (takenOf w tag s m) s)
+    all = subst (λ (es : List Entry). Taken tag s (foldl (takeEntry tag) s es) (takenOf w s m)) (sym takes-told) (taken-each tag (takenOf w s m) s)
 
     -- an address in use is among those taken
-    among : (a : ℕ) → a < 1024 → Marked s a → List·Memᴰ (entryIn w m a) (takenOf w tag s m)
+    among : (a : ℕ) → a < 1024 → Marked s a → List·Memᴰ (entryIn w m a) (takenOf w s m)
     unfolding inUse addresses
     among a h k = Memᴰ·map (entryIn w m) (in-use-all (s .marks) 1024 a h (marked-used s a k))
+
+    -- no fault after the takes: none before, and no stamp ahead
+    none : takeAll w tag s m .fault ≡ false → NoneFound s (takenOf w s m)
+    none f = ⊎-elim (λ k. absurd (false≢true (sym f ∙ k .0))) (λ k. k .1) (all .fault)
 
     agreed : agrees (takeAll w tag s m) ≡ true → Agrees w tag s m
     agreed e =
         let h = agrees-tells (takeAll w tag s m) e in
-        let calm : (s .fault ≡ true) ⊎ Ahead (s .clock) (takenOf w tag s m) → ⊥ = λ f. false≢true (sym (h .1) ∙ all .fault .1 f) in
+        let n = none (h .1) in
         record {
-          hashes = sym (all .put) ∙ h .0 ∙ all .take ∙ joins (s .seal) (s .take) (takenOf w tag s m) (y .takes);
-          faultless = unset (s .fault) (λ f. calm (inl f));
-          on-time = λ a l k. let n : s .clock < stampIn w m a → ⊥ = λ g. calm (inr (entryIn w m a, among a l k, g)) in omega arith;
+          hashes = sym (all .put) ∙ h .0 ∙ all .take ∙ joins (s .seal) (s .take) (takenOf w s m) (y .takes);
+          faultless = n .0;
+          on-time = λ a l k. let d : s .clock < stampIn w m a → ⊥ = λ g. n .1 (entryIn w m a, among a l k, g) in omega arith;
         }
 
     agree : Agrees w tag s m → agrees (takeAll w tag s m) ≡ true
     unfolding inUse addresses
     agree g =
-        equal-agrees (takeAll w tag s m) (all .put ∙ g .hashes ∙ sym (all .take ∙ joins (s .seal) (s .take) (takenOf w tag s m) (y .takes)))
-        (unset (takeAll w tag s m .fault) (λ f. ⊎-elim (λ e. false≢true (sym (g .faultless) ∙ e)) late (all .fault .0 f)))
+        equal-agrees (takeAll w tag s m) (all .put ∙ g .hashes ∙ sym (all .take ∙ joins (s .seal) (s .take) (takenOf w s m) (y .takes)))
+        (⊎-elim (λ k. absurd (found (k .1))) (λ k. k .0) (all .fault))
       where
-        late : Ahead (s .clock) (takenOf w tag s m) → ⊥
-        late (e, k, l) =
+        none-ahead : SomeAhead (s .clock) (takenOf w s m) → ⊥
+        none-ahead (e, k, l) =
             let r = Memᴰ·of-map (entryIn w m) (inUse (s .marks)) k in
             let u = in-use-only (s .marks) 1024 (r .0) (r .1) in
             let b = g .on-time (r .0) (u .0) (used-marks s (r .0) (u .1)) in
             let q : stampIn w m (r .0) ≡ e .stamp = ap (λ (x : Entry). x .stamp) (r .2) in
             omega arith
+
+        found : {a : ℕ} → FoundAt s (takenOf w s m) a → ⊥
+        found (inl (f, q)) = false≢true (sym (g .faultless) ∙ f)
+        found (inr (f, q)) =
+            none-ahead (q .entry, subst (List·Memᴰ (q .entry)) (sym (q .place)) (Memᴰ·append-right (q .before) (List·Memᴰ·head refl)), q .ahead)
+
+    -- the reason of a reject
+    because : agrees (takeAll w tag s m) ≡ false → Reason w tag s m (reason (takeAll w tag s m))
+    unfolding reason
+    because e = ⊎-elim
+        (λ k. inl (takeAll w tag s m .first, rw (k .0), k .1))
+        (λ k. inr (rw (k .0), k .1, λ h. false≢true (sym e ∙ equal-agrees (takeAll w tag s m) (all .put ∙ h ∙ sym (all .take ∙ joins (s .seal) (s .take) (takenOf w s m) (y .takes))) (k .0))))
+        (all .fault)
 
   -- ---- the cells after an accepted check
 
@@ -236,10 +253,11 @@ module _ (w : ℕ) (tag : Seal → Entry → List ℕ) where
     unfolding acceptance putAll reput opening opened emptyHash addresses cellSize valueSize valueAt
     accepted size c g = record {
       seal = put-seal tag (reput w (s .marks) m) (opened s);
-      put = put-each tag (reput w (s .marks) m) (opened s) ∙ joins (s .seal) zeroHash (putOf w tag s m) (omega arith);
+      put = put-each tag (reput w (s .marks) m) (opened s) ∙ joins (s .seal) zeroHash (putOf w s m) (omega arith);
       take = opens w tag s m .take;
       clock = opens w tag s m .clock;
       fault = opens w tag s m .fault ∙ g .faultless;
+      first = opens w tag s m .first;
       closed = opens w tag s m .closed ∙ c;
       marks = opens w tag s m .marks;
       size = ap length (write-all w s m) ∙ puts-length w (s .marks) m addresses (omega arith) size ∙ sym size;
@@ -247,12 +265,12 @@ module _ (w : ℕ) (tag : Seal → Entry → List ℕ) where
       unused = λ a h k. ap (λ (x : List ℕ). cellIn w x a) (write-all w s m) ∙ cell-kept (s .marks) m size addresses a (omega arith) (λ l. unset (used (s .marks) a) (λ u. k (used-marks s a u)));
     }
 
-    rejected : Rejected w tag s m (rejection w tag s m .seen)
+    rejected : Rejected s m (rejection w tag s m .seen)
     unfolding rejection close
-    rejected = record { seal = refl; put = refl; take = refl; clock = refl; fault = refl; closed = refl; marks = refl; store = refl }
+    rejected = record { seal = refl; put = refl; take = refl; clock = refl; fault = refl; first = refl; closed = refl; marks = refl; store = refl }
 
     abbrev Checked : Seen → Type 0
-    Checked x = ((x .verdict ≡ Accept) × Agrees w tag s m × Accepted w tag s m x) ⊎ ((x .verdict ≡ Reject) × ¬ Agrees w tag s m × Rejected w tag s m x)
+    Checked x = ((x .verdict ≡ Accept) × Agrees w tag s m × Accepted w tag s m x) ⊎ (Reason w tag s m (x .verdict) × ¬ Agrees w tag s m × Rejected s m x)
 
     check-effect : checkOf w tag s m .seen .number ≡ 0 → Checked (checkOf w tag s m .seen)
     unfolding checkOf acceptance rejection
@@ -263,7 +281,7 @@ module _ (w : ℕ) (tag : Seal → Entry → List ℕ) where
 
         go : (b : Bool) → agrees (takeAll w tag s m) ≡ b → Checked (cond b (acceptance w tag s m) (rejection w tag s m) .seen)
         go true q = let r = check-ready w s m (d .0) in let g = agreed s m y q in inl (refl, g, accepted (r .1) (r .0) g)
-        go false q = inr (refl, (λ g. false≢true (sym q ∙ agree s m y g)), rejected)
+        go false q = inr (because s m y q, (λ g. false≢true (sym q ∙ agree s m y g)), rejected)
 
   pub effects : Effects w tag (calls w tag)
   unfolding inUse addresses loadOf loaded storeOf stored putEntry takeEntry

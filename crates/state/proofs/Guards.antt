@@ -1,12 +1,12 @@
 -- What a take marks, when a check accepts, and what an accepted check leaves of the state. Assumes nothing.
-use mathlib.Core.Path.{_≡_, refl, sym, ap, _∙_, subst}
-use mathlib.Core.Bool.{Bool, true, false, cond, not, _||_, or-true}
+use mathlib.Core.Path.{_≡_, refl, sym, ap, ap₂, _∙_, subst}
+use mathlib.Core.Bool.{Bool, true, false, cond, not, _||_, _&&_, true≢false, false≢true}
 use mathlib.Core.List.{List, []}
-use mathlib.Core.Logic.{_⊎_, inl, inr}
-use Prim.Native.Nat.{ℕ, zero, suc, _<_}
+use mathlib.Core.Logic.{_↔_, _≢_}
+use Prim.Native.Nat.{ℕ, zero, suc, _≤_, _<_}
 use native.Mathlib.Omega.{arith}
 use lib.Dec.{ltb}
-use borrow.Author.Tests.{ltb-true, lt-ltb, not-true}
+use borrow.Author.Tests.{lt-ltb, le-ltb, not-true}
 use Rattle.refusal.specs.Refusal.{first, done}
 use Rattle.state.specs.Sizes.{addresses}
 use Rattle.state.specs.Marks.{used}
@@ -14,28 +14,29 @@ use Rattle.state.specs.Cells.{Entry}
 use Rattle.state.specs.Multiset.{emptyHash, sameHash}
 use Rattle.state.specs.TakePut.{seen, outcome, takeEntry, putEntry}
 use Rattle.state.specs.Access.{call}
-use Rattle.state.specs.Check.{checkRows, opening, opened, agrees, takeAll, putEach, putAll, acceptance, rejection, checkOf}
+use Rattle.state.specs.Check.{checkRows, opening, opened, agrees, reason, takeAll, putEach, putAll, acceptance, rejection, checkOf}
 use Rattle.state.specs.declared.Seal.{Seal}
 use Rattle.state.specs.declared.State.{State}
-use Rattle.state.specs.declared.Verdict.the-variants.{Accept, Nothing}
+use Rattle.state.specs.declared.Verdict.{Verdict}
+use Rattle.state.specs.declared.Verdict.the-variants.{Accept, Stamp, Tag, Nothing}
 use Rattle.octets.proofs.Same.{both}
 use Rattle.state.proofs.Multiset.{sameHash-true, equal-sameHash}
 use Rattle.state.proofs.Walks.{putEachBelow, put-each}
+use Rattle.state.proofs.Marked.{unset}
 
 module _ (tag : Seal → Entry → List ℕ) (s : State) where
-  -- a take marks a fault exactly where one was marked or the stamp is above the clock
-  pub fault-marked : (e : Entry) → takeEntry tag s e .fault ≡ true → (s .fault ≡ true) ⊎ (s .clock < e .stamp)
+  -- a take where a fault is marked leaves it as it is; where none is, a stamp above the clock marks it at the entry's address, and any other marks none
+  pub take-faulted : (e : Entry) → s .fault ≡ true → (takeEntry tag s e .fault ≡ true) × (takeEntry tag s e .first ≡ s .first)
   unfolding takeEntry
-  fault-marked e h = go (s .fault) refl
-    where
-      go : (b : Bool) → s .fault ≡ b → (s .fault ≡ true) ⊎ (s .clock < e .stamp)
-      go true q = inl q
-      go false q = inr (ltb-true (s .clock) (e .stamp) (sym (ap (λ (b : Bool). b || ltb (s .clock) (e .stamp)) q) ∙ h))
+  take-faulted e f = (ap (λ (b : Bool). b || ltb (s .clock) (e .stamp)) f, ap (λ (b : Bool). cond (not b && ltb (s .clock) (e .stamp)) (e .address) (s .first)) f)
 
-  pub marks-fault : (e : Entry) → (s .fault ≡ true) ⊎ (s .clock < e .stamp) → takeEntry tag s e .fault ≡ true
+  pub take-found : (e : Entry) → s .fault ≡ false → s .clock < e .stamp → (takeEntry tag s e .fault ≡ true) × (takeEntry tag s e .first ≡ e .address)
   unfolding takeEntry
-  marks-fault e (inl h) = rw h
-  marks-fault e (inr h) = rw (lt-ltb (s .clock) (e .stamp) h, or-true)
+  take-found e f h = let l = lt-ltb (s .clock) (e .stamp) h in (ap₂ _||_ f l, ap₂ (λ b c. cond (not b && c) (e .address) (s .first)) f l)
+
+  pub take-calm : (e : Entry) → s .fault ≡ false → e .stamp ≤ s .clock → (takeEntry tag s e .fault ≡ false) × (takeEntry tag s e .first ≡ s .first)
+  unfolding takeEntry
+  take-calm e f h = let l = le-ltb (s .clock) (e .stamp) h in (ap₂ _||_ f l, ap₂ (λ b c. cond (not b && c) (e .address) (s .first)) f l)
 
 -- the hashes are equal and no fault is marked
 pub agrees-tells : (t : State) → agrees t ≡ true → (t .put ≡ t .take) × (t .fault ≡ false)
@@ -48,24 +49,61 @@ pub equal-agrees : (t : State) → t .put ≡ t .take → t .fault ≡ false →
 unfolding agrees
 equal-agrees t h f = rw (equal-sameHash (t .put) (t .take) h, f)
 
+-- a reason is no accept
+pub reason-rejects : (t : State) {A : Type 0} → reason t ≡ Accept → A
+unfolding reason
+reason-rejects t {A} = go (t .fault)
+  where
+    go : (b : Bool) → cond b (Stamp (t .first)) Tag ≡ Accept → A
+    go true e = let y : _≡_ {A = ℕ} 0 1 = cc in absurd (omega arith)
+    go false e = let y : _≡_ {A = ℕ} 0 1 = cc in absurd (omega arith)
+
 module _ (w : ℕ) (tag : Seal → Entry → List ℕ) (s : State) (m : List ℕ) where
-  -- a check that is not refused accepts exactly where after its takes the hashes are equal and no fault is marked
-  pub accepts-tells : first (checkRows w s m) ≡ 0 → checkOf w tag s m .seen .verdict ≡ Accept
-      → (takeAll w tag s m .put ≡ takeAll w tag s m .take) × (takeAll w tag s m .fault ≡ false)
+  abbrev t : State
+  t = takeAll w tag s m
+
+  -- what a check that is not refused says, by the state after its takes
+  verdict-is : first (checkRows w s m) ≡ 0 → checkOf w tag s m .seen .verdict ≡ cond (agrees t) Accept (reason t)
   unfolding checkOf call acceptance rejection
-  accepts-tells e v = go (agrees t) refl (sym (ap (λ (n : ℕ). done n (cond (agrees t) (acceptance w tag s m) (rejection w tag s m)) (outcome (seen n Nothing s m []) []) .seen .verdict) e) ∙ v)
+  verdict-is e = ap (λ (n : ℕ). done n (cond (agrees t) (acceptance w tag s m) (rejection w tag s m)) (outcome (seen n Nothing s m []) []) .seen .verdict) e ∙ go (agrees t)
     where
-      t : State
-      t = takeAll w tag s m
+      go : (b : Bool) → cond b (acceptance w tag s m) (rejection w tag s m) .seen .verdict ≡ cond b Accept (reason t)
+      go true = refl
+      go false = refl
 
-      go : (b : Bool) → agrees t ≡ b → cond b (acceptance w tag s m) (rejection w tag s m) .seen .verdict ≡ Accept → (t .put ≡ t .take) × (t .fault ≡ false)
-      go true h k = agrees-tells t h
-      go false h k = let y : _≡_ {A = ℕ} 0 1 = cc in absurd (omega arith)
+  module _ (e : first (checkRows w s m) ≡ 0) where
+    abbrev verdict : Verdict
+    verdict = checkOf w tag s m .seen .verdict
 
-  pub equal-accepts : first (checkRows w s m) ≡ 0 → takeAll w tag s m .put ≡ takeAll w tag s m .take → takeAll w tag s m .fault ≡ false
-      → checkOf w tag s m .seen .verdict ≡ Accept
-  unfolding checkOf call acceptance rejection
-  equal-accepts e h f = rw (e, equal-agrees (takeAll w tag s m) h f)
+    -- accept exactly where the hashes are equal and no fault is marked
+    pub accepts-tells : verdict ≡ Accept → (t .put ≡ t .take) × (t .fault ≡ false)
+    accepts-tells v = go (agrees t) refl (sym (verdict-is e) ∙ v)
+      where
+        go : (b : Bool) → agrees t ≡ b → cond b Accept (reason t) ≡ Accept → (t .put ≡ t .take) × (t .fault ≡ false)
+        go true h k = agrees-tells t h
+        go false h k = reason-rejects t k
+
+    pub equal-accepts : t .put ≡ t .take → t .fault ≡ false → verdict ≡ Accept
+    equal-accepts h f = verdict-is e ∙ rw (equal-agrees t h f)
+
+    -- for a stamp exactly where a fault is marked, and with the first one's address; and for the tags exactly where none is and the hashes differ
+    pub says-stamp : (a : ℕ) → (verdict ≡ Stamp a) ↔ ((t .fault ≡ true) × (t .first ≡ a))
+    unfolding reason
+    says-stamp a = ((λ v. tells (agrees t) refl (t .fault) refl (sym (verdict-is e) ∙ v)), λ k. verdict-is e ∙ rw (unset (agrees t) (λ h. false≢true (sym (agrees-tells t h .1) ∙ k .0)), k .0, k .1))
+      where
+        tells : (b : Bool) → agrees t ≡ b → (c : Bool) → t .fault ≡ c → cond b Accept (cond c (Stamp (t .first)) Tag) ≡ Stamp a → (t .fault ≡ true) × (t .first ≡ a)
+        tells true h c f k = let y : _≡_ {A = ℕ} 0 1 = cc in absurd (omega arith)
+        tells false h true f k = (f, cc)
+        tells false h false f k = let y : _≡_ {A = ℕ} 0 1 = cc in absurd (omega arith)
+
+    pub says-tag : (verdict ≡ Tag) ↔ ((t .fault ≡ false) × (t .put ≢ t .take))
+    unfolding reason
+    says-tag = ((λ v. tells (agrees t) refl (t .fault) refl (sym (verdict-is e) ∙ v)), λ k. verdict-is e ∙ rw (unset (agrees t) (λ h. k .1 (agrees-tells t h .0)), k .0))
+      where
+        tells : (b : Bool) → agrees t ≡ b → (c : Bool) → t .fault ≡ c → cond b Accept (cond c (Stamp (t .first)) Tag) ≡ Tag → (t .fault ≡ false) × (t .put ≢ t .take)
+        tells true h c f k = let y : _≡_ {A = ℕ} 0 1 = cc in absurd (omega arith)
+        tells false h true f k = let y : _≡_ {A = ℕ} 0 1 = cc in absurd (omega arith)
+        tells false h false f k = (f, λ q. true≢false (sym (equal-agrees t q f) ∙ h))
 
   -- accepted: the take hash begins empty and the clock is 1, also with no address in use; the rest but the put hash is as it was
   pub record Opens (t : State) : Type 0 where
@@ -73,20 +111,21 @@ module _ (w : ℕ) (tag : Seal → Entry → List ℕ) (s : State) (m : List ℕ
     pub take : t .take ≡ emptyHash
     pub clock : t .clock ≡ 1
     pub fault : t .fault ≡ s .fault
+    pub first : t .first ≡ s .first
     pub closed : t .closed ≡ s .closed
     pub marks : t .marks ≡ s .marks
 
   module _ (ws : List ℕ) where
     opens-below : (n : ℕ) → Opens (putEachBelow w tag ws (opened s) m n)
     unfolding putEachBelow opened putEntry opening
-    opens-below zero = record { seal = refl; take = refl; clock = refl; fault = refl; closed = refl; marks = refl }
+    opens-below zero = record { seal = refl; take = refl; clock = refl; fault = refl; first = refl; closed = refl; marks = refl }
     opens-below (suc n) = go (used ws n) (opens-below n)
       where
         x : State
         x = putEachBelow w tag ws (opened s) m n
 
         go : (b : Bool) → Opens x → Opens (cond b (putEntry tag x (opening w m n)) x)
-        go true h = record { seal = h .seal; take = h .take; clock = refl; fault = h .fault; closed = h .closed; marks = h .marks }
+        go true h = record { seal = h .seal; take = h .take; clock = refl; fault = h .fault; first = h .first; closed = h .closed; marks = h .marks }
         go false h = h
 
     -- whatever addresses are put

@@ -1,25 +1,26 @@
 -- What is taken one after the other joins the take hash, and what is put joins the put hash: by induction on the entries. Assumes nothing.
-use mathlib.Core.Path.{_≡_, refl, sym, ap, _∙_, subst}
-use mathlib.Core.Bool.{true}
-use mathlib.Core.List.{List, [], _∷_, _++_, map, foldl, append-nil, List·Memᴰ·head, List·Memᴰ·tail, List·Memᴰ·not-nil, List·Memᴰ·cases-cons}
-use mathlib.Core.Logic.{_⊎_, inl, inr, ⊎-elim, _↔_}
-use Prim.Native.Nat.{ℕ, suc, _+_, _%_, _^_, _<_}
+use mathlib.Core.Path.{_≡_, refl, sym, ap, _∙_}
+use mathlib.Core.Bool.{Bool, true, false, true≢false, false≢true}
+use mathlib.Core.List.{List, [], _∷_, _++_, map, foldl, append-nil, List·Memᴰ·not-nil, List·Memᴰ·cases-cons}
+use mathlib.Core.Logic.{_⊎_, inl, inr, ⊎-elim}
+use Prim.Native.Nat.{ℕ, suc, _+_, _%_, _^_, _≤_, _<_}
 use native.Mathlib.Nat.{zero-add}
 use native.Mathlib.Omega.{arith}
+use lib.Dec.{ltb}
 use lib.ListN.{length, take, replicate, length-map}
+use borrow.Author.Tests.{ltb-true, ltb-false}
 use lib.Seq.{append-snoc}
 use Rattle.octets.specs.Places.{xor}
 use Rattle.state.specs.Cells.{Entry}
 use Rattle.state.specs.Multiset.{hash, emptyHash, withTag}
 use Rattle.state.specs.TakePut.{takeEntry, putEntry}
 use Rattle.state.specs.Table.{zeroHash}
-use Rattle.state.specs.Effects.{Ahead}
+use Rattle.state.specs.Effects.{SomeAhead, Faulted}
 use Rattle.state.specs.declared.Hash.{Hash}
 use Rattle.state.specs.declared.Seal.{Seal}
 use Rattle.state.specs.declared.State.{State}
-use Rattle.state.specs.declared.Verdict.the-variants.{Accept, Reject, Nothing}
 use Rattle.state.proofs.Multiset.{hash-none, hash-last}
-use Rattle.state.proofs.Guards.{fault-marked, marks-fault}
+use Rattle.state.proofs.Guards.{take-faulted, take-found, take-calm}
 
 -- ---- a hash that tags join
 
@@ -50,34 +51,56 @@ module _ (tag : Seal → Entry → List ℕ) where
     pub put : t .put ≡ s .put
     pub take : t .take ≡ foldl withTag (s .take) (map (tag (s .seal)) es)
     pub clock : t .clock ≡ s .clock
-    pub fault : (t .fault ≡ true) ↔ ((s .fault ≡ true) ⊎ Ahead (s .clock) es)
+    pub fault : Faulted s t es
     pub closed : t .closed ≡ s .closed
+
+  -- none is ahead among these and e, where e is not
+  still-none : (c : ℕ) (e : Entry) (es : List Entry) → e .stamp ≤ c → ¬ SomeAhead c es → ¬ SomeAhead c (e ∷ es)
+  still-none c e es h n (d, m, l) = ⊎-elim (λ q. let z : d .stamp ≡ e .stamp = ap (λ (x : Entry). x .stamp) q in absurd (omega arith)) (λ k. n (d, k, l)) (List·Memᴰ·cases-cons m)
+
+  -- the first entry taken, and the others after it
+  faulted-more : (s t : State) (e : Entry) (es : List Entry) → Faulted (takeEntry tag s e) t es → Faulted s t (e ∷ es)
+  unfolding takeEntry
+  faulted-more s t e es r = go (s .fault) refl (ltb (s .clock) (e .stamp)) refl r
+    where
+      go : (b : Bool) → s .fault ≡ b → (c : Bool) → ltb (s .clock) (e .stamp) ≡ c → Faulted (takeEntry tag s e) t es → Faulted s t (e ∷ es)
+      go true f c l (inl (tf, inl (u, q))) = inl (tf, inl (f, q ∙ take-faulted tag s e f .1))
+      go true f c l (inl (tf, inr (u, q))) = absurd (true≢false (sym (take-faulted tag s e f .0) ∙ u))
+      go true f c l (inr (tf, (u, n), q)) = absurd (true≢false (sym (take-faulted tag s e f .0) ∙ u))
+      go false f true l (inl (tf, inl (u, q))) =
+          let h = ltb-true (s .clock) (e .stamp) l in
+          inl (tf, inr (f, record { before = []; entry = e; later = es; place = refl; address = sym (q ∙ take-found tag s e f h .1); ahead = h; none-before = λ k. List·Memᴰ·not-nil (k .1) }))
+      go false f true l (inl (tf, inr (u, q))) = absurd (true≢false (sym (take-found tag s e f (ltb-true _ _ l) .0) ∙ u))
+      go false f true l (inr (tf, (u, n), q)) = absurd (true≢false (sym (take-found tag s e f (ltb-true _ _ l) .0) ∙ u))
+      go false f false l (inl (tf, inl (u, q))) = absurd (false≢true (sym (take-calm tag s e f (ltb-false _ _ l) .0) ∙ u))
+      go false f false l (inl (tf, inr (u, q))) =
+          inl (
+            tf,
+            inr (
+              f,
+              record {
+                before = e ∷ q .before;
+                entry = q .entry;
+                later = q .later;
+                place = ap (λ (x : List Entry). e ∷ x) (q .place);
+                address = q .address;
+                ahead = q .ahead;
+                none-before = still-none (s .clock) e (q .before) (ltb-false _ _ l) (q .none-before);
+              },
+            ),
+          )
+      go false f false l (inr (tf, (u, n), q)) = inr (tf, (f, still-none (s .clock) e es (ltb-false _ _ l) n), q ∙ take-calm tag s e f (ltb-false _ _ l) .1)
 
   pub taken-each : (es : List Entry) (s : State) → Taken s (foldl (takeEntry tag) s es) es
   unfolding takeEntry
-  taken-each [] s = record {
-    seal = refl;
-    put = refl;
-    take = refl;
-    clock = refl;
-    fault = (inl, λ h. ⊎-elim (λ e. e) (λ a. absurd (List·Memᴰ·not-nil (a .1))) h);
-    closed = refl;
-  }
-  taken-each (e ∷ es) s = let r = taken-each es (takeEntry tag s e) in record {
-    seal = r .seal;
-    put = r .put;
-    take = r .take;
-    clock = r .clock;
-    fault = (
-      (λ h. ⊎-elim (λ f. ⊎-elim inl (λ l. inr (e, List·Memᴰ·head refl, l)) (fault-marked tag s e f)) (λ a. inr (a .0, List·Memᴰ·tail (a .1), a .2)) (r .fault .0 h)),
-      (λ h. r .fault .1 (again h)),
-    );
-    closed = r .closed;
-  }
+  taken-each [] s = record { seal = refl; put = refl; take = refl; clock = refl; fault = go (s .fault) refl; closed = refl }
     where
-      again : (s .fault ≡ true) ⊎ Ahead (s .clock) (e ∷ es) → (takeEntry tag s e .fault ≡ true) ⊎ Ahead (s .clock) es
-      again (inl f) = inl (marks-fault tag s e (inl f))
-      again (inr (d, m, l)) = ⊎-elim (λ q. inl (marks-fault tag s e (inr (subst (λ (x : Entry). s .clock < x .stamp) q l)))) (λ m. inr (d, m, l)) (List·Memᴰ·cases-cons m)
+      go : (b : Bool) → s .fault ≡ b → Faulted s s []
+      go true f = inl (f, inl (f, refl))
+      go false f = inr (f, (f, λ k. List·Memᴰ·not-nil (k .1)), refl)
+  taken-each (e ∷ es) s =
+      let r = taken-each es (takeEntry tag s e) in
+      record { seal = r .seal; put = r .put; take = r .take; clock = r .clock; fault = faulted-more s (foldl (takeEntry tag) s (e ∷ es)) e es (r .fault); closed = r .closed }
 
   pub put-each : (es : List Entry) (s : State) → foldl (putEntry tag) s es .put ≡ foldl withTag (s .put) (map (tag (s .seal)) es)
   unfolding putEntry

@@ -11,7 +11,6 @@ use Rattle.state.specs.Sizes.{addresses}
 use Rattle.state.specs.Marks.{used, marked, unmarked}
 use Rattle.state.specs.Table.{Marked}
 use Rattle.state.specs.declared.State.{State}
-use Rattle.state.specs.declared.Verdict.the-variants.{Accept, Reject, Nothing}
 use Rattle.state.proofs.Marks.{used-marked, used-unmarked}
 
 pub unset : (b : Bool) → (b ≡ true → ⊥) → b ≡ false

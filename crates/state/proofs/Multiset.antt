@@ -1,5 +1,5 @@
 -- The hash of a multiset takes one entry more by its tag, and depends only on how often each entry occurs: exclusive-ors can change places. Assumes nothing.
-use mathlib.Core.Path.{_≡_, refl, sym, ap, ap₂, _∙_}
+use mathlib.Core.Path.{_≡_, refl, sym, ap, ap₂, _∙_, subst}
 use mathlib.Core.Bool.{Bool, true, false, _&&_}
 use mathlib.Core.List.{List, [], _∷_, _++_, map, append-nil}
 use mathlib.Core.Logic.{_⊎_, inl, inr}
@@ -8,7 +8,7 @@ use native.Mathlib.Omega.{arith}
 use lib.Arith.{bin-ind}
 use lib.Bits.{bitXor, xor-zero-l, xor-comm, xor-self, xor-shr, xor-mod}
 use lib.Dec.{eqb}
-use lib.ListN.{length, replicate}
+use lib.ListN.{length, replicate, length-append}
 use borrow.Author.Tests.{eqb-true, eq-eqb}
 use Rattle.octets.specs.Places.{xor, same}
 use Rattle.octets.proofs.Same.{both, same-refl, same-eq}
@@ -98,6 +98,11 @@ unfolding times
 times-out c [] e q = refl
 times-out c (d ∷ p) e q = omega (arith, times-out c p e q)
 
+pub times-append : (c : Entry) (p q : List Entry) → times c (p ++ q) ≡ times c p + times c q
+unfolding times
+times-append c [] q = omega arith
+times-append c (d ∷ p) q = omega (arith, times-append c p q)
+
 pub times-last : (c : Entry) (p : List Entry) (e : Entry) → times c (p ++ (e ∷ [])) ≡ once (sameEntry c e) + times c p
 times-last c p e = times-out c p e [] ∙ ap (λ (l : List Entry). once (sameEntry c e) + times c l) (append-nil p)
 
@@ -116,6 +121,22 @@ find e (d ∷ l) h = go (sameEntry e d) refl (find e l)
         let z : once (sameEntry e d) ≡ 0 = ap once k in
         let w = f (omega arith) in
         (d ∷ (w .0), w .1, ap (λ (y : List Entry). d ∷ y) (w .2))
+
+-- an induction on two lists with equal counts: an entry of the first is taken out of both
+by-counts : (P : List Entry → List Entry → Type 0) → P [] [] → ((e : Entry) (p q r : List Entry) → P p (q ++ r) → P (e ∷ p) (q ++ (e ∷ r)))
+    → (p t : List Entry) → ((e : Entry) → times e p ≡ times e t) → P p t
+unfolding times
+by-counts P none more [] [] f = none
+by-counts P none more [] (e ∷ t) f = let one : once (sameEntry e e) ≡ 1 = ap once (sameEntry-refl e) in absurd (omega (arith, f e))
+by-counts P none more (e ∷ p) t f =
+    let one : once (sameEntry e e) ≡ 1 = ap once (sameEntry-refl e) in
+    let w = find e t (omega (arith, f e)) in
+    let ih = by-counts P none more p (w .0 ++ w .1) (λ c. omega (arith, f c, ap (times c) (w .2), times-out c (w .0) e (w .1))) in
+    subst (P (e ∷ p)) (sym (w .2)) (more e p (w .0) (w .1) ih)
+
+-- they are of one length
+pub same-lengths : (p t : List Entry) → ((e : Entry) → times e p ≡ times e t) → length p ≡ length t
+same-lengths = by-counts (λ p t. length p ≡ length t) refl (λ e p q r ih. omega (arith, length-append q (e ∷ r), length-append q r, ih))
 
 -- ---- the hash
 
@@ -141,14 +162,8 @@ module _ (tag : Entry → List ℕ) where
 
   -- equal counts give equal hashes: the order in which a multiset is listed is nothing to its hash
   pub same-counts : (p t : List Entry) → ((e : Entry) → times e p ≡ times e t) → hash tag p ≡ hash tag t
-  unfolding times
-  same-counts [] [] f = refl
-  same-counts [] (e ∷ t) f = let one : once (sameEntry e e) ≡ 1 = ap once (sameEntry-refl e) in absurd (omega (arith, f e))
-  same-counts (e ∷ p) t f =
-      let one : once (sameEntry e e) ≡ 1 = ap once (sameEntry-refl e) in
-      let w = find e t (omega (arith, f e)) in
-      let ih = same-counts p (w .0 ++ w .1) (λ c. omega (arith, f c, ap (times c) (w .2), times-out c (w .0) e (w .1))) in
-      hash-cons e p ∙ ap (λ (h : Hash). withTag h (tag e)) ih ∙ sym (hash-out (w .0) e (w .1)) ∙ ap (hash tag) (sym (w .2))
+  same-counts =
+      by-counts (λ p t. hash tag p ≡ hash tag t) refl (λ e p q r ih. hash-cons e p ∙ ap (λ (h : Hash). withTag h (tag e)) ih ∙ sym (hash-out q e r))
 
   -- 01, example 14: {x, x} and {y, y} have equal hashes, for any tags of 32 bytes
   twice : (n : ℕ) (t : List ℕ) → length t ≡ n → xor (xor (replicate n 0) t) t ≡ replicate n 0

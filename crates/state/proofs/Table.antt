@@ -19,12 +19,13 @@ use Rattle.state.specs.Multiset.{emptyHash}
 use Rattle.state.specs.Start.{sealed, fresh, noState, startRows, startOf}
 use Rattle.state.specs.TakePut.{seen, Outcome}
 use Rattle.state.specs.Access.{addressRow, unusedRow, addRows, exchangeRows, removeRows, lookRows, call, added, loaded, stored, removed, addOf, loadOf, storeOf, removeOf}
-use Rattle.state.specs.Check.{checkRows, agrees, takeAll, acceptance, rejection, checkOf}
+use Rattle.state.specs.Check.{checkRows, agrees, reason, takeAll, acceptance, rejection, checkOf}
 use Rattle.state.specs.Calls.{calls}
 use Rattle.state.specs.Table.{Marked, Answers, Table}
 use Rattle.state.specs.declared.Seal.{Seal}
 use Rattle.state.specs.declared.State.{State}
-use Rattle.state.specs.declared.Verdict.the-variants.{Accept, Reject, Nothing}
+use Rattle.state.specs.declared.Verdict.{Verdict}
+use Rattle.state.specs.declared.Verdict.the-variants.{Accept, Stamp, Tag, Nothing}
 use Rattle.state.proofs.Cells.{value-length}
 use Rattle.state.proofs.Ready.{call-done, call-refused, look-ready, look-done, look-refused}
 
@@ -70,19 +71,30 @@ module _ (w : ℕ) (tag : Seal → Entry → List ℕ) where
       answers (checkRows w s m) _ s m [] _ (flag 7 (s .closed), (differ 1 (length m) (storeSize w), tt))
       (either-zero (agrees (takeAll w tag s m)) (acceptance w tag s m) (rejection w tag s m) refl refl)
 
-  check-says : (s : State) (m : List ℕ) → checkOf w tag s m .seen .number ≡ 0 → (checkOf w tag s m .seen .verdict ≡ Accept) ⊎ (checkOf w tag s m .seen .verdict ≡ Reject)
-  unfolding checkOf acceptance rejection
+  -- a verdict of a check that is done
+  abbrev Says : Verdict → Type 0
+  Says v = (v ≡ Accept) ⊎ ((v ≡ Tag) ⊎ ((a : ℕ) × (v ≡ Stamp a)))
+
+  check-says : (s : State) (m : List ℕ) → checkOf w tag s m .seen .number ≡ 0 → Says (checkOf w tag s m .seen .verdict)
+  unfolding checkOf acceptance rejection reason
   check-says s m h = go (first (checkRows w s m)) refl
     where
+      t : State
+      t = takeAll w tag s m
+
       x : Outcome
-      x = cond (agrees (takeAll w tag s m)) (acceptance w tag s m) (rejection w tag s m)
+      x = cond (agrees t) (acceptance w tag s m) (rejection w tag s m)
 
-      said : (b : Bool) → (cond b (acceptance w tag s m) (rejection w tag s m) .seen .verdict ≡ Accept) ⊎ (cond b (acceptance w tag s m) (rejection w tag s m) .seen .verdict ≡ Reject)
+      why : (b : Bool) → Says (cond b (Stamp (t .first)) Tag)
+      why true = inr (inr (t .first, refl))
+      why false = inr (inl refl)
+
+      said : (b : Bool) → Says (cond b (acceptance w tag s m) (rejection w tag s m) .seen .verdict)
       said true = inl refl
-      said false = inr refl
+      said false = why (t .fault)
 
-      go : (n : ℕ) → first (checkRows w s m) ≡ n → (call (checkRows w s m) s m [] x .seen .verdict ≡ Accept) ⊎ (call (checkRows w s m) s m [] x .seen .verdict ≡ Reject)
-      go zero e = rw (call-done (checkRows w s m) s m [] x e) (said (agrees (takeAll w tag s m)))
+      go : (n : ℕ) → first (checkRows w s m) ≡ n → Says (call (checkRows w s m) s m [] x .seen .verdict)
+      go zero e = rw (call-done (checkRows w s m) s m [] x e) (said (agrees t))
       go (suc n) e =
           let r = call-refused (checkRows w s m) s m [] x (λ q. let y : suc n ≡ 0 = sym e ∙ q in absurd (omega arith)) in
           let y : suc n ≡ 0 = sym e ∙ sym (ap (λ (r : Outcome). r .seen .number) r) ∙ h in

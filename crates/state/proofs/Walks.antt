@@ -8,8 +8,8 @@ use lib.ListN.{length}
 use Rattle.state.specs.Sizes.{addresses, storeSize}
 use Rattle.state.specs.Marks.{used, usedBelow, inUse}
 use Rattle.state.specs.Cells.{Entry, valueAt, entryAt, writeEntry}
-use Rattle.state.specs.TakePut.{took, put, takeEntry, putEntry}
-use Rattle.state.specs.Check.{taken, opening, reput, takes, puts, writeEach, writeAll, takeEach, takeAll, putEach}
+use Rattle.state.specs.TakePut.{took, takeEntry, putEntry}
+use Rattle.state.specs.Check.{taken, opening, reput, takes, writeEach, writeAll, takeEach, takeAll, putEach}
 use Rattle.state.specs.declared.Seal.{Seal}
 use Rattle.state.specs.declared.State.{State}
 use Rattle.state.proofs.Cells.{write-length, value-length, value-other}
@@ -27,14 +27,10 @@ fold-used {S} f x ws g h (suc n) =
     go true e = ap (λ (t : S). f t (x n)) e
     go false e = e
 
--- the events of a check, address by address
+-- the takes of a check, address by address
 pub takes-used : (w : ℕ) (s : State) (m : List ℕ) → takes w s m ≡ map (λ a. took (entryAt w m a)) (usedBelow (s .marks) addresses)
 unfolding takes taken inUse
 takes-used w s m = map-map took (entryAt w m) (usedBelow (s .marks) addresses)
-
-pub puts-used : (w : ℕ) (s : State) (m : List ℕ) → puts w s m ≡ map (λ a. put (opening w m a)) (usedBelow (s .marks) addresses)
-unfolding puts reput inUse
-puts-used w s m = map-map put (opening w m) (usedBelow (s .marks) addresses)
 
 -- ---- the store after the marked addresses below n are put again
 

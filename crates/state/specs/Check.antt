@@ -13,19 +13,27 @@ use Rattle.state.specs.Access.{closedRow, storeRow, call}
 use Rattle.state.specs.declared.Seal.{Seal}
 use Rattle.state.specs.declared.State.{State}
 use Rattle.state.specs.declared.Verdict.{Verdict}
-use Rattle.state.specs.declared.Verdict.the-variants.{Accept, Reject, Nothing}
+use Rattle.state.specs.declared.Verdict.the-variants.{Accept, Stamp, Tag, Nothing}
 
 -- the number of each verdict: a check that is refused says nothing, and its number stands beside it
 abbrev pub verdictNumber : Verdict → Option ℕ
 verdictNumber Accept = some 0
-verdictNumber Reject = some 0
+verdictNumber (Stamp a) = some 0
+verdictNumber Tag = some 0
 verdictNumber Nothing = none
 
--- and what it carries: accept, reject, or no verdict
+-- and what it carries: accept, reject, or no verdict; and the address that a reject names
 abbrev pub verdictAccepts : Verdict → Option Bool
 verdictAccepts Accept = some true
-verdictAccepts Reject = some false
+verdictAccepts (Stamp a) = some false
+verdictAccepts Tag = some false
 verdictAccepts Nothing = none
+
+abbrev pub verdictAddress : Verdict → Option ℕ
+verdictAddress Accept = none
+verdictAddress (Stamp a) = some a
+verdictAddress Tag = none
+verdictAddress Nothing = none
 
 unfoldable pub checkRows : ℕ → State → List ℕ → List Row
 checkRows w s m = closedRow s ∷ storeRow w m ∷ []
@@ -44,11 +52,15 @@ reput w ws m = map (opening w m) (inUse ws)
 -- a new period: empty hashes, and the clock at 1
 unfoldable pub opened : State → State
 opened s =
-    record { seal = s .seal; put = emptyHash; take = emptyHash; clock = 1; fault = s .fault; closed = s .closed; marks = s .marks }
+    record { seal = s .seal; put = emptyHash; take = emptyHash; clock = 1; fault = s .fault; first = s .first; closed = s .closed; marks = s .marks }
 
 -- the hashes are equal and no fault is marked
 unfoldable pub agrees : State → Bool
 agrees s = sameHash (s .put) (s .take) && not (s .fault)
+
+-- why a check rejects, by the state after its takes: a stamp that was ahead, where it was first found, and else the tags
+unfoldable pub reason : State → Verdict
+reason t = cond (t .fault) (Stamp (t .first)) Tag
 
 -- the events of a check: its takes, and an accepted one's puts
 unfoldable pub takes : ℕ → State → List ℕ → List Event
@@ -86,9 +98,9 @@ module _ (w : ℕ) (tag : Seal → Entry → List ℕ) where
   unfoldable pub acceptance : State → List ℕ → Outcome
   acceptance s m = outcome (seen 0 Accept (putAll s m) (writeAll w s m) []) (takes w s m ++ (accepted ∷ puts w s m))
 
-  -- rejected: the state given, closed, and the store as it was
+  -- rejected, for a reason that counts the check's own takes: the state given, closed, and the store as it was
   unfoldable pub rejection : State → List ℕ → Outcome
-  rejection s m = outcome (seen 0 Reject (close s) m []) (takes w s m)
+  rejection s m = outcome (seen 0 (reason (takeAll s m)) (close s) m []) (takes w s m)
 
   unfoldable pub checkOf : State → List ℕ → Outcome
   checkOf s m = call (checkRows w s m) s m [] (cond (agrees (takeAll s m)) (acceptance s m) (rejection s m))

@@ -17,7 +17,8 @@ use Rattle.state.specs.Table.{Marked, zeroHash}
 use Rattle.state.specs.declared.Hash.{Hash}
 use Rattle.state.specs.declared.Seal.{Seal}
 use Rattle.state.specs.declared.State.{State}
-use Rattle.state.specs.declared.Verdict.the-variants.{Accept, Reject}
+use Rattle.state.specs.declared.Verdict.{Verdict}
+use Rattle.state.specs.declared.Verdict.the-variants.{Accept, Stamp, Tag}
 
 -- what every state of the program has, and a made-up one need not: its numbers of elements fit 32 bits, and there are 16 words of marks
 pub record Typed (s : State) : Type 0 where
@@ -25,14 +26,50 @@ pub record Typed (s : State) : Type 0 where
   pub takes : s .take .number < 2 ^ 32
   pub words : length (s .marks) ≡ 16
 
--- some entry's stamp is ahead of the clock
-abbrev pub Ahead : ℕ → List Entry → Type 0
-Ahead clock es = (e : Entry) × List·Memᴰ e es × (clock < e .stamp)
+-- an entry's stamp is ahead of the clock; that of some of these is; and the first of these whose stamp is ahead is at the address a
+abbrev pub Ahead : ℕ → Entry → Type 0
+Ahead clock e = clock < e .stamp
+
+abbrev pub SomeAhead : ℕ → List Entry → Type 0
+SomeAhead clock es = (e : Entry) × List·Memᴰ e es × Ahead clock e
+
+pub record FirstAhead (clock : ℕ) (es : List Entry) (a : ℕ) : Type 0 where
+  pub before : List Entry
+  pub entry : Entry
+  pub later : List Entry
+  pub place : es ≡ before ++ (entry ∷ later)
+  pub address : entry .address ≡ a
+  pub ahead : Ahead clock entry
+  pub none-before : ¬ SomeAhead clock before
+
+-- once these are taken from the state s a fault is marked, and it is at a: where it was before, or else at the first of them whose stamp is ahead
+abbrev pub FoundAt : State → List Entry → ℕ → Type 0
+FoundAt s es a = ((s .fault ≡ true) × (a ≡ s .first)) ⊎ ((s .fault ≡ false) × FirstAhead (s .clock) es a)
+
+-- once these are taken no fault is marked
+abbrev pub NoneFound : State → List Entry → Type 0
+NoneFound s es = (s .fault ≡ false) × ¬ SomeAhead (s .clock) es
+
+-- the fault of the state t, which is s after these are taken: marked, and where; or not marked, and then the address is as it was
+abbrev pub Faulted : State → State → List Entry → Type 0
+Faulted s t es = ((t .fault ≡ true) × FoundAt s es (t .first)) ⊎ ((t .fault ≡ false) × NoneFound s es × (t .first ≡ s .first))
 
 -- each number is below the next
 abbrev pub Rising : List ℕ → Type 0
 Rising [] = Unit
 Rising (x ∷ xs) = ((y : ℕ) → List·Memᴰ y xs → x < y) × Rising xs
+
+-- rejected: the state as it was, but closed, and the store as it was
+pub record Rejected (s : State) (m : List ℕ) (x : Seen) : Type 0 where
+  pub seal : x .state .seal ≡ s .seal
+  pub put : x .state .put ≡ s .put
+  pub take : x .state .take ≡ s .take
+  pub clock : x .state .clock ≡ s .clock
+  pub fault : x .state .fault ≡ s .fault
+  pub first : x .state .first ≡ s .first
+  pub closed : x .state .closed ≡ true
+  pub marks : x .state .marks ≡ s .marks
+  pub store : x .store ≡ m
 
 module _ (w : ℕ) where
   -- what some bytes hold at an address
@@ -52,6 +89,13 @@ module _ (w : ℕ) where
   abbrev pub withCell : List ℕ → ℕ → List ℕ → List ℕ
   withCell m a cell = take ((28 + w) * a) m ++ (cell ++ drop ((28 + w) * a + (28 + w)) m)
 
+  -- the entries at the addresses in use, as a check takes them and as an accepted one puts them
+  abbrev pub takenOf : State → List ℕ → List Entry
+  takenOf s m = map (entryIn m) (inUse (s .marks))
+
+  abbrev pub putOf : State → List ℕ → List Entry
+  putOf s m = map (λ a. entry a (valueIn m a) 1) (inUse (s .marks))
+
   module _ (tag : Seal → Entry → List ℕ) where
     -- a hash that some entries have joined, under a seal
     abbrev pub joined : Seal → Hash → List Entry → Hash
@@ -63,15 +107,8 @@ module _ (w : ℕ) where
       pub put : t .put ≡ joined (s .seal) (s .put) puts
       pub take : t .take ≡ joined (s .seal) (s .take) takes
       pub clock : t .clock ≡ c
-      pub fault : (t .fault ≡ true) ↔ ((s .fault ≡ true) ⊎ Ahead (s .clock) takes)
+      pub fault : Faulted s t takes
       pub closed : t .closed ≡ s .closed
-
-    -- the entries at the addresses in use, as a check takes them and as an accepted one puts them
-    abbrev pub takenOf : State → List ℕ → List Entry
-    takenOf s m = map (entryIn m) (inUse (s .marks))
-
-    abbrev pub putOf : State → List ℕ → List Entry
-    putOf s m = map (λ a. entry a (valueIn m a) 1) (inUse (s .marks))
 
     -- the condition of a check: the hashes agree once these are taken, no fault was marked, and no stamp is ahead of the clock
     pub record Agrees (s : State) (m : List ℕ) : Type 0 where
@@ -86,22 +123,18 @@ module _ (w : ℕ) where
       pub take : x .state .take ≡ zeroHash
       pub clock : x .state .clock ≡ 1
       pub fault : x .state .fault ≡ false
+      pub first : x .state .first ≡ s .first
       pub closed : x .state .closed ≡ false
       pub marks : x .state .marks ≡ s .marks
       pub size : length (x .store) ≡ length m
       pub used : (a : ℕ) → a < 1024 → Marked s a → cellIn (x .store) a ≡ valueIn m a ++ bytes w 1
       pub unused : (a : ℕ) → a < 1024 → ¬ Marked s a → cellIn (x .store) a ≡ cellIn m a
 
-    -- rejected: the state as it was, but closed, and the store as it was
-    pub record Rejected (s : State) (m : List ℕ) (x : Seen) : Type 0 where
-      pub seal : x .state .seal ≡ s .seal
-      pub put : x .state .put ≡ s .put
-      pub take : x .state .take ≡ s .take
-      pub clock : x .state .clock ≡ s .clock
-      pub fault : x .state .fault ≡ s .fault
-      pub closed : x .state .closed ≡ true
-      pub marks : x .state .marks ≡ s .marks
-      pub store : x .store ≡ m
+    -- why a check rejects: for a stamp that was ahead, its own takes counted after those of the calls, with the address; and else for hashes that differ
+    abbrev pub Reason : State → List ℕ → Verdict → Type 0
+    Reason s m v =
+        ((a : ℕ) × (v ≡ Stamp a) × FoundAt s (takenOf s m) a)
+        ⊎ ((v ≡ Tag) × NoneFound s (takenOf s m) × (s .put ≢ joined (s .seal) (s .take) (takenOf s m)))
 
     pub record Effects (c : Calls) : Type 0 where
       -- Add: a put at the raised clock, and the mark
@@ -124,9 +157,9 @@ module _ (w : ℕ) where
       -- load and store leave the marks
       pub load-marks : (s : State) (m : List ℕ) (a : ℕ) (o : List ℕ) → c .load s m a o .state .marks ≡ s .marks
       pub store-marks : (s : State) (m : List ℕ) (a : ℕ) (v : List ℕ) → c .store s m a v .state .marks ≡ s .marks
-      -- Check: accept exactly where its condition holds, and else reject
+      -- Check: accept exactly where its condition holds, and else reject, for the one reason that there is
       pub check : (s : State) (m : List ℕ) → Typed s → c .check s m .number ≡ 0
           → ((c .check s m .verdict ≡ Accept) × Agrees s m × Accepted s m (c .check s m))
-          ⊎ ((c .check s m .verdict ≡ Reject) × ¬ Agrees s m × Rejected s m (c .check s m))
+          ⊎ (Reason s m (c .check s m .verdict) × ¬ Agrees s m × Rejected s m (c .check s m))
       -- the list of addresses in use has each of them, and no other, lowest first
       pub in-use : (s : State) → Typed s → Rising (inUse (s .marks)) × ((a : ℕ) → List·Memᴰ a (inUse (s .marks)) ↔ ((a < 1024) × Marked s a))

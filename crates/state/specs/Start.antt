@@ -19,7 +19,7 @@ sealed k = record { key = k }
 -- nothing put, taken or marked, and the clock at 0
 unfoldable pub fresh : Seal → Bool → State
 unfolding emptyHash words
-fresh x c = record { seal = x; put = emptyHash; take = emptyHash; clock = 0; fault = false; closed = c; marks = replicate words 0 }
+fresh x c = record { seal = x; put = emptyHash; take = emptyHash; clock = 0; fault = false; first = 0; closed = c; marks = replicate words 0 }
 
 -- what a refused start gives: closed, and zeros everywhere else
 unfoldable pub noState : State

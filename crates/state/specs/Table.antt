@@ -12,7 +12,7 @@ use Rattle.state.specs.TakePut.{Seen}
 use Rattle.state.specs.Calls.{Calls}
 use Rattle.state.specs.declared.Hash.{Hash}
 use Rattle.state.specs.declared.State.{State}
-use Rattle.state.specs.declared.Verdict.the-variants.{Accept, Reject, Nothing}
+use Rattle.state.specs.declared.Verdict.the-variants.{Accept, Stamp, Tag, Nothing}
 
 -- address a is in use: bit a % 64, from the lowest, of word a / 64
 abbrev pub Marked : State → ℕ → Type 0
@@ -30,9 +30,9 @@ zeroHash = record { tag = replicate 32 0; number = 0 }
 pub record Table (cell size ceiling : ℕ) (c : Calls) : Type 0 where
   pub start : (k : List ℕ) → FirstOf (given 8 (length k ≢ 32) ∷ []) (c .start k .number)
   pub start-state : (k : List ℕ) → c .start k .number ≡ 0
-      → c .start k .state ≡ record { seal = record { key = k }; put = zeroHash; take = zeroHash; clock = 0; fault = false; closed = false; marks = replicate 16 0 }
+      → c .start k .state ≡ record { seal = record { key = k }; put = zeroHash; take = zeroHash; clock = 0; fault = false; first = 0; closed = false; marks = replicate 16 0 }
   pub start-refused : (k : List ℕ) → c .start k .number ≢ 0
-      → c .start k .state ≡ record { seal = record { key = replicate 32 0 }; put = zeroHash; take = zeroHash; clock = 0; fault = false; closed = true; marks = replicate 16 0 }
+      → c .start k .state ≡ record { seal = record { key = replicate 32 0 }; put = zeroHash; take = zeroHash; clock = 0; fault = false; first = 0; closed = true; marks = replicate 16 0 }
   pub add : (s : State) (m : List ℕ) (a : ℕ) (v : List ℕ)
       → Answers (given 7 (s .closed ≡ true) ∷ given 1 (length m ≢ size) ∷ given 2 (1023 < a) ∷ given 3 (length v ≢ 28) ∷ given 4 (Marked s a) ∷ given 6 (s .clock ≡ ceiling) ∷ [])
       (c .add s m a v) s m []
@@ -45,8 +45,9 @@ pub record Table (cell size ceiling : ℕ) (c : Calls) : Type 0 where
   pub remove : (s : State) (m : List ℕ) (a : ℕ)
       → Answers (given 7 (s .closed ≡ true) ∷ given 1 (length m ≢ size) ∷ given 2 (1023 < a) ∷ given 5 (¬ Marked s a) ∷ []) (c .remove s m a) s m []
   pub check : (s : State) (m : List ℕ) → Answers (given 7 (s .closed ≡ true) ∷ given 1 (length m ≢ size) ∷ []) (c .check s m) s m []
-  -- a check that is done says accept or reject; the others that are done say nothing
-  pub check-says : (s : State) (m : List ℕ) → c .check s m .number ≡ 0 → (c .check s m .verdict ≡ Accept) ⊎ (c .check s m .verdict ≡ Reject)
+  -- a check that is done says accept, or reject for a stamp at an address or for the tags
+  pub check-says : (s : State) (m : List ℕ) → c .check s m .number ≡ 0
+      → (c .check s m .verdict ≡ Accept) ⊎ ((c .check s m .verdict ≡ Tag) ⊎ ((a : ℕ) × (c .check s m .verdict ≡ Stamp a)))
   -- a look gives the cell's value where it lies, and no bytes at the store's first where the store or the address is refused
   pub look : (m : List ℕ) (a : ℕ) → length m ≡ size → a < 1024 → (c .look m a ≡ take 28 (drop (cell * a) m)) × (c .look-from m a ≡ cell * a)
   pub look-size : (m : List ℕ) (a : ℕ) → length m ≡ size → a < 1024 → length (c .look m a) ≡ 28

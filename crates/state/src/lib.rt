@@ -20,6 +20,8 @@ pub struct State {
     pub take: Hash,
     pub clock: u16,
     pub fault: bool,
+    // where fault is set: the address of the first take of the period whose stamp was ahead of the clock
+    pub first: u16,
     pub closed: bool,
     pub marks: [u64; State::WORDS],
 }
@@ -36,10 +38,12 @@ pub struct Moved {
     pub state: State,
 }
 
-// What a check says: a check that is refused says nothing.
+// What a check says: it accepts; or it rejects, for a stamp that was ahead of the clock, first taken at this address, or else for its tags. A check that is
+// refused says nothing.
 pub enum Verdict {
     Accept,
-    Reject,
+    Stamp(u16),
+    Tag,
     Nothing,
 }
 
@@ -116,6 +120,7 @@ fn empty(seal: Seal, closed: bool) -> State
         },
         clock: 0,
         fault: false,
+        first: 0,
         closed,
         marks: [0u64; State::WORDS],
     }

@@ -1,7 +1,7 @@
 -- What take and put make of a state, field by field. Assumes nothing.
-use borrow.Author.Tests.{lt-ltb, le-ltb}
+use borrow.Author.Tests.{lt-ltb, le-ltb, not-true, not-false}
 use mathlib.Core.Path.{_≡_, sym, ap, ap₂, _∙_}
-use mathlib.Core.Bool.{Bool, true, _||_, or-true, or-false}
+use mathlib.Core.Bool.{Bool, true, false, cond, not, _||_, _&&_, or-false, and-false}
 use mathlib.Core.List.{List}
 use Prim.Native.Nat.{ℕ, _≤_, _<_}
 use lib.Dec.{ltb}
@@ -13,27 +13,38 @@ use Rattle.state.specs.declared.Hash.{Hash}
 use Rattle.state.specs.declared.Seal.{Seal}
 use Rattle.state.specs.declared.Verdict.the-variants.{Nothing}
 
--- the state with another take hash and fault mark, and with another put hash and clock
-abbrev pub withTake : State → Hash → Bool → State
-withTake s h f = record { seal = s .seal; put = s .put; take = h; clock = s .clock; fault = f; closed = s .closed; marks = s .marks }
+-- the state with another take hash and fault, and with another put hash and clock
+abbrev pub withTake : State → Hash → Bool → ℕ → State
+withTake s h f a = record { seal = s .seal; put = s .put; take = h; clock = s .clock; fault = f; first = a; closed = s .closed; marks = s .marks }
 
 abbrev pub withPut : State → Hash → ℕ → State
-withPut s h t = record { seal = s .seal; put = h; take = s .take; clock = t; fault = s .fault; closed = s .closed; marks = s .marks }
+withPut s h t = record { seal = s .seal; put = h; take = s .take; clock = t; fault = s .fault; first = s .first; closed = s .closed; marks = s .marks }
 
--- a stamp above the clock, and one that is not
-pub fault-marked : (f : Bool) (c t : ℕ) → c < t → true ≡ (f || ltb c t)
-fault-marked f c t h = rw (lt-ltb c t h) (sym (or-true f))
+-- the fault mark f and the first fault's address x after a take at a of the stamp t
+abbrev pub FaultAfter : State → ℕ → ℕ → Bool → ℕ → Type 0
+FaultAfter s a t f x = (f ≡ (s .fault || ltb (s .clock) t)) × (x ≡ cond (not (s .fault) && ltb (s .clock) t) a (s .first))
 
-pub fault-kept : (f : Bool) (c t : ℕ) → t ≤ c → f ≡ (f || ltb c t)
-fault-kept f c t h = rw (le-ltb c t h) (sym (or-false f))
+module _ (s : State) (a t : ℕ) where
+  -- a stamp above the clock where no fault is marked, one where a fault is, and a stamp that is not above
+  pub fault-found : not (s .fault) ≡ true → s .clock < t → FaultAfter s a t true a
+  fault-found n h = let f = not-true (s .fault) n in (rw (f, lt-ltb (s .clock) t h), rw (f, lt-ltb (s .clock) t h))
+
+  pub fault-stays : not (s .fault) ≡ false → FaultAfter s a t (s .fault) (s .first)
+  fault-stays n = let f = not-false (s .fault) n in (rw f, rw f)
+
+  pub fault-none : t ≤ s .clock → FaultAfter s a t (s .fault) (s .first)
+  fault-none h = (rw (le-ltb (s .clock) t h) (sym (or-false (s .fault))), rw (le-ltb (s .clock) t h, and-false (not (s .fault))))
 
 module _ (w : ℕ) (tag : Seal → Entry → List ℕ) (s : State) (m : List ℕ) (a : ℕ) where
-  -- a take, by its parts: the new hash h, the tag k, the value v and the stamp t read, the new fault mark f
-  pub take-is : {h : Hash} {k v : List ℕ} {t : ℕ} {f : Bool} → h ≡ withTag (s .take) k → k ≡ tag (s .seal) (entry a v t) → v ≡ valueAt w m a → t ≡ stampAt w m a
-      → f ≡ (s .fault || ltb (s .clock) t) → withTake s h f ≡ takeEntry tag s (entryAt w m a)
+  -- a take, by its parts: the new hash h, the tag k, the value v and the stamp t read, the new fault f at x
+  pub take-is : {h : Hash} {k v : List ℕ} {t : ℕ} {f : Bool} {x : ℕ} → h ≡ withTag (s .take) k → k ≡ tag (s .seal) (entry a v t) → v ≡ valueAt w m a → t ≡ stampAt w m a
+      → FaultAfter s a t f x → withTake s h f x ≡ takeEntry tag s (entryAt w m a)
   unfolding takeEntry entryAt
   take-is p q r u g =
-      ap₂ (withTake s) (p ∙ ap (withTag (s .take)) (q ∙ ap₂ (λ v t. tag (s .seal) (entry a v t)) r u)) (g ∙ ap (λ t. s .fault || ltb (s .clock) t) u)
+      let hash = p ∙ ap (withTag (s .take)) (q ∙ ap₂ (λ v t. tag (s .seal) (entry a v t)) r u) in
+      let fault = g .0 ∙ ap (λ t. s .fault || ltb (s .clock) t) u in
+      let first = g .1 ∙ ap (λ t. cond (not (s .fault) && ltb (s .clock) t) a (s .first)) u in
+      λ i. withTake s (hash i) (fault i) (first i)
 
   -- it keeps the clock
   pub take-clock : {t : State} → t ≡ takeEntry tag s (entryAt w m a) → t .clock ≡ s .clock

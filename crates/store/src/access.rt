@@ -11,7 +11,7 @@ ghost use Rattle.state.specs.Access.{added, loaded, stored, removed};
 ghost use Rattle.state.specs.declared.Verdict.the-variants.{Nothing};
 ghost use Rattle.entries.specs.Tag.{tag};
 
-// Take: the entry that the store holds joins the take hash; a stamp above the clock marks the fault.
+// Take: the entry that the store holds joins the take hash; a stamp above the clock marks the fault, and the first one its address.
 pub fn take(s: State, store: &[u8], a: usize) -> State
     requires { ⌜ (length (now store) ≡ storeSize width) × (a < addresses) ⌝ }
     ensures { λ r. ⌜ r ≡ takeEntry tag s (entryAt width (now (store .entry)) a) ⌝ }
@@ -24,7 +24,10 @@ pub fn take(s: State, store: &[u8], a: usize) -> State
     let mut r = s;
     r.take = h;
     if s.clock < stamp {
-        r.fault = true;
+        if !s.fault {
+            r.fault = true;
+            r.first = a as u16;
+        }
     }
     r
 }

@@ -73,7 +73,8 @@ pub fn remove(s: State, store: &mut [u8], a: usize) -> Moved
     Moved { number, state: s }
 }
 
-// Takes every address in use. Where after that both hashes agree and the fault mark is clear it accepts, and a new period begins; else it closes the state.
+// Takes every address in use. Where after that both hashes agree and the fault mark is clear it accepts, and a new period begins; else it says why it rejects,
+// and closes the state.
 pub fn check(s: State, store: &mut [u8]) -> Checked
     ensures { λ r. ⌜ seen (r .number) (r .verdict) (r .state) (now (store .exit)) []
         ≡ checkOf width tag s (now (store .entry)) .seen ⌝ }
@@ -87,7 +88,8 @@ pub fn check(s: State, store: &mut [u8]) -> Checked
         };
     }
     let m = s.marks;
-    if periods::agrees(checks::take_each(s, m, store)) {
+    let taken = checks::take_each(s, m, store);
+    if periods::agrees(taken) {
         let state = checks::put_each(periods::opened(s), m, store);
         return Checked {
             number: 0,
@@ -97,7 +99,7 @@ pub fn check(s: State, store: &mut [u8]) -> Checked
     }
     Checked {
         number: 0,
-        verdict: Verdict::Reject,
+        verdict: periods::reason(taken),
         state: periods::close(s),
     }
 }

@@ -6,7 +6,7 @@ use mathlib.Core.Bool.{Bool, true, false}
 use mathlib.Core.List.{List, [], _∷_, _++_}
 use mathlib.Core.Logic.{_⊎_, inl, inr, ⊎-elim}
 use native.Mathlib.Omega.{arith}
-use Prim.Native.Nat.{ℕ, zero, suc, _+_, _-_, _*_, _/_, _%_, _≤_, _<_}
+use Prim.Native.Nat.{ℕ, zero, suc, _+_, _-_, _*_, _/_, _%_, _^_, _≤_, _<_}
 use lib.Dec.{ltb, eqb}
 use lib.ListN.{length, getD, length-append, List·getD-append}
 use Rattle.text.specs.Text.{decimalUp, decimal, glyph, hex}
@@ -63,16 +63,13 @@ decimal-more n d h g =
     let r : (10 * n + d) % 10 ≡ d = omega arith in
     up-enough m (suc m) m (omega arith) (omega arith) ∙ up-more m m (omega arith) ∙ rw (q, r, up-enough m n n (omega arith) (omega arith))
 
-pub decimal-two : (n : ℕ) → 10 ≤ n → n < 100 → decimal n ≡ (48 + n / 10) ∷ (48 + n % 10) ∷ []
-decimal-two n h g =
-    let e : n ≡ 10 * (n / 10) + n % 10 = omega arith in
-    ap decimal e ∙ decimal-more (n / 10) (n % 10) (omega arith) (omega arith) ∙ rw (decimal-small (n / 10) (omega arith))
-
-pub decimal-three : (n : ℕ) → 100 ≤ n → n < 1000 → decimal n ≡ (48 + n / 100) ∷ (48 + n / 10 % 10) ∷ (48 + n % 10) ∷ []
-decimal-three n h g =
-    let e : n ≡ 10 * (n / 10) + n % 10 = omega arith in
-    let q : n / 10 / 10 ≡ n / 100 = omega arith in
-    ap decimal e ∙ decimal-more (n / 10) (n % 10) (omega arith) (omega arith) ∙ rw (decimal-two (n / 10) (omega arith) (omega arith), q)
+-- a number has no more digits than a larger power of ten has zeros
+pub decimal-length : (n k : ℕ) → n < 10 ^ suc k → length (decimal n) ≤ suc k
+decimal-length = decimal-all (λ m l. (k : ℕ) → m < 10 ^ suc k → length l ≤ suc k) (λ m h k g. omega arith) more
+  where
+    more : (m : ℕ) (l : List ℕ) → 10 ≤ m → ((k : ℕ) → m / 10 < 10 ^ suc k → length l ≤ suc k) → (k : ℕ) → m < 10 ^ suc k → length (l ++ ((48 + m % 10) ∷ [])) ≤ suc k
+    more m l h r zero g = absurd (omega arith)
+    more m l h r (suc k) g = omega (arith, length-append l ((48 + m % 10) ∷ []), r k (omega arith))
 
 -- the value of some digits after a value
 abbrev value : ℕ → List ℕ → ℕ

@@ -1,15 +1,16 @@
-//! A value added, loaded and checked; and a mirror that goes back to an older cell. docs/CALLING.md, "An example".
-use pintlecup::{Action, Family, Filter, Refusal, State, Verdict, CELL, KEY, STORE};
+//! A value added, loaded and checked; a mirror that goes back to an older cell; and one that makes up a stamp. docs/CALLING.md, "An example".
+use pintlecup::{Action, Family, Filter, Refusal, State, Verdict, CELL, KEY, STORE, VALUE};
 
 fn number<T>(answer: Result<T, Refusal>) -> u8 {
     answer.map_or_else(Refusal::number, |_| 0)
 }
 
-fn said(answer: Result<Verdict, Refusal>) -> &'static str {
+fn said(answer: Result<Verdict, Refusal>) -> String {
     match answer {
-        Ok(Verdict::Accept) => "accept",
-        Ok(Verdict::Reject) => "reject",
-        Err(_) => "nothing",
+        Ok(Verdict::Accept) => "accept".to_string(),
+        Ok(Verdict::Stamp(address)) => format!("reject stamp {address}"),
+        Ok(Verdict::Tag) => "reject tag".to_string(),
+        Err(_) => "nothing".to_string(),
     }
 }
 
@@ -56,5 +57,14 @@ fn main() -> Result<(), Refusal> {
     println!("unpack 0, {}", if back { "back" } else { "forward" });
     println!("check {}", said(lent.check()));
     println!("load {}", number(lent.load(address)));
+
+    // a new start, and a mirror that hands out a stamp which is yet to come
+    let mut state = State::start(&key)?;
+    println!("start 0");
+    println!("add {}", number(state.lend(&mut mirror).add(5, &value)));
+    mirror[CELL * 5 + VALUE] = 1;
+    let mut lent = state.lend(&mut mirror);
+    println!("load {}", number(lent.load(5)));
+    println!("check {}", said(lent.check()));
     Ok(())
 }

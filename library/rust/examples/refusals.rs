@@ -34,7 +34,7 @@ fn main() {
     met.push(state.lowest_free().err());
 
     mirror[0] ^= 1;
-    assert_eq!(state.lend(&mut mirror).check(), Ok(Verdict::Reject));
+    assert_eq!(state.lend(&mut mirror).check(), Ok(Verdict::Tag));
     met.push(state.lend(&mut mirror).check().err());
 
     assert!(digest(&[0; 8192]).is_ok() && hmac(&[0; 1024], &[0; 4096]).is_ok());

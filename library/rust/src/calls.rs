@@ -18,7 +18,8 @@ pub struct State {
     clock: u16,
     fault: u8,
     closed: u8,
-    unused: u32,
+    first: u16,
+    unused: u16,
 }
 
 /// A filter record: family 0 is IPv4, and action 0 is deny.
@@ -37,8 +38,9 @@ const _: () = assert!(core::mem::size_of::<State>() == 240 && core::mem::align_o
 const _: () = assert!(core::mem::size_of::<Filter>() == 28 && core::mem::align_of::<Filter>() == 4);
 const _: () = assert!(core::mem::size_of::<usize>() == 8);
 
-/// What a check that rejects gives.
-pub const REJECTED: u8 = 255;
+/// What a check that rejects gives, for a stamp and for the tags.
+pub const REJECTED_STAMP: u8 = 254;
+pub const REJECTED_TAG: u8 = 255;
 
 #[link(name = "pintlecup", kind = "static")]
 extern "C" {
@@ -47,7 +49,7 @@ extern "C" {
     fn pintlecup_load(state: *mut State, store: *mut u8, size: usize, address: usize, out: *mut u8, out_size: usize) -> u8;
     fn pintlecup_store(state: *mut State, store: *mut u8, size: usize, address: usize, value: *const u8, value_size: usize) -> u8;
     fn pintlecup_remove(state: *mut State, store: *mut u8, size: usize, address: usize) -> u8;
-    fn pintlecup_check(state: *mut State, store: *mut u8, size: usize) -> u8;
+    fn pintlecup_check(state: *mut State, store: *mut u8, size: usize, address: *mut usize) -> u8;
     fn pintlecup_look(store: *const u8, size: usize, address: usize) -> usize;
     fn pintlecup_count(state: *const State) -> u32;
     fn pintlecup_lowest_free(state: *const State, address: *mut usize) -> u8;
@@ -61,7 +63,7 @@ extern "C" {
 pub fn start(key: &[u8]) -> (u8, State) {
     let none = || Hash { tag: [0; 32], number: 0 };
     let mut state =
-        State { key: [0; 32], marks: [0; 16], put: none(), take: none(), clock: 0, fault: 0, closed: 1, unused: 0 };
+        State { key: [0; 32], marks: [0; 16], put: none(), take: none(), clock: 0, fault: 0, closed: 1, first: 0, unused: 0 };
     let number = unsafe { pintlecup_start(&mut state, key.as_ptr(), key.len()) };
     (number, state)
 }
@@ -82,8 +84,10 @@ pub fn remove(state: &mut State, store: &mut [u8], address: usize) -> u8 {
     unsafe { pintlecup_remove(state, store.as_mut_ptr(), store.len(), address) }
 }
 
-pub fn check(state: &mut State, store: &mut [u8]) -> u8 {
-    unsafe { pintlecup_check(state, store.as_mut_ptr(), store.len()) }
+pub fn check(state: &mut State, store: &mut [u8]) -> (u8, usize) {
+    let mut address = 0;
+    let number = unsafe { pintlecup_check(state, store.as_mut_ptr(), store.len(), &mut address) };
+    (number, address)
 }
 
 pub fn look(store: &[u8], address: usize) -> usize {

@@ -108,14 +108,18 @@ fn done(number: u8) -> Result<(), Refusal> {
     }
 }
 
-/// What a check says.
+/// What a check says: that it accepts, or why it rejects. A reject says that the store lied, at some load, store or remove, or at the check: use nothing
+/// loaded since the last accept. The state is closed for good.
 #[derive(Clone, Copy, PartialEq, Eq, Debug)]
 #[must_use]
 pub enum Verdict {
     /// Every load so far gave what was last added or stored at its address, or hashes have collided.
     Accept,
-    /// The store lied, at some load, store or remove, or at the check: use nothing loaded since the last accept. The state is closed for good.
-    Reject,
+    /// A reject: at this address a stamp was ahead of the clock: when it was taken, nothing put since the last accept had reached it; of several since then, the one
+    /// that was taken first.
+    Stamp(usize),
+    /// A reject: no stamp was ahead of the clock, and what was taken is not what was put.
+    Tag,
 }
 
 /// The trusted state: 240 bytes, to be kept secret.
@@ -176,8 +180,9 @@ impl Lent<'_> {
     /// Whether the store has told the truth.
     pub fn check(&mut self) -> Result<Verdict, Refusal> {
         match calls::check(self.state, self.store) {
-            calls::REJECTED => Ok(Verdict::Reject),
-            number => done(number).map(|()| Verdict::Accept),
+            (calls::REJECTED_STAMP, address) => Ok(Verdict::Stamp(address)),
+            (calls::REJECTED_TAG, _) => Ok(Verdict::Tag),
+            (number, _) => done(number).map(|()| Verdict::Accept),
         }
     }
 

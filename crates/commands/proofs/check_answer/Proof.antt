@@ -3,8 +3,11 @@ use borrow.Author.Needs.{needs}
 use Rattle.commands.proofs.check_answer.Statement.{statement}
 use Rattle.commands.proofs.check_answer.Tie as tie
 
-returns-3 : tie.Need-returns-3
-returns-3 c = rw (c .enum-told3 .given .1)
+returns-2 : tie.Need-returns-2
+returns-2 c = rw (c .before .verdict .given .1)
+
+returns-4 : tie.Need-returns-4
+returns-4 c = rw (c .enum-told3 .given .1)
 
 pub check-answer-spec : {M : Type 1} → statement M
 check-answer-spec =
@@ -13,6 +16,8 @@ check-answer-spec =
     (λ c. search needs)
     (λ c. search needs)
     (λ c. search needs)
+    returns-2
     (λ c. search needs)
     (λ c. search needs)
-    returns-3)
+    (λ c. search needs)
+    returns-4)

@@ -6,7 +6,7 @@ use native.Mathlib.Omega.{arith}
 use Rattle.refusal.proofs.Passed.{done-zero, done-other}
 use Rattle.state.specs.Sizes.{addresses, valueSize, cellSize, storeSize}
 use Rattle.state.proofs.Ready.{look-ready, look-done}
-use Rattle.exports.specs.Answers.{lookAnswer}
+use Rattle.held.specs.Answers.{lookAnswer}
 use Rattle.exports.proofs.pintlecup_look.Statement.{statement}
 use Rattle.exports.proofs.pintlecup_look.Tie as tie
 

@@ -1,4 +1,4 @@
--- `exports::pintlecup_lowest_free` meets its contract: a walk of its MIR, written by tools/walks.py. It is a thin call of `values::lowest_free`, and all that is known of that is that it meets its own.
+-- `exports::pintlecup_lowest_free` meets its contract: a walk of its MIR, written by tools/walks.py. It is a thin call of `held::lowest_free`, and all that is known of that is that it meets its own.
 -- Assumes nothing.
 use mathlib.Core.Path.{_≡_, refl, ap, subst}
 use Prim.Native.Nat.{ℕ}
@@ -36,15 +36,15 @@ use denote.Triple.Clauses.{Lasts, atExit, ensured, lasts}
 use denote.Triple.Table.{entered, cited}
 use denote.Triple.Walked.{says, Stays, stay-ref, stay-dropped, walkOf, goes-ref, goes-dropped, Walks, ends-at, walked, walk-meets}
 use denote.Exit.{yes}
-use Rattle.exports.specs.declared.Held.{Held}
-use Rattle.exports.proofs.Held as Heldᵀ
-use Rattle.exports.proofs.Held.Laws as Heldᴸ
-use Rattle.exports.specs.declared.values.Lowest.{Lowest}
-use Rattle.exports.proofs.values.Lowest as Lowestᵀ
-use Rattle.exports.proofs.values.Lowest.Laws as Lowestᴸ
-use Rattle.exports.proofs.values.lowest_free as g
-use Rattle.exports.proofs.values.lowest_free.Symbol as work
-use Rattle.exports.proofs.values.lowest_free.Met as known
+use Rattle.held.specs.declared.Held.{Held}
+use Rattle.held.proofs.Held as Heldᵀ
+use Rattle.held.proofs.Held.Laws as Heldᴸ
+use Rattle.held.specs.declared.Lowest.{Lowest}
+use Rattle.held.proofs.Lowest as Lowestᵀ
+use Rattle.held.proofs.Lowest.Laws as Lowestᴸ
+use Rattle.held.proofs.lowest_free as g
+use Rattle.held.proofs.lowest_free.Symbol as work
+use Rattle.held.proofs.lowest_free.Met as known
 use Rattle.exports.proofs.pintlecup_lowest_free as f
 use Rattle.exports.proofs.pintlecup_lowest_free.Key as key
 use Rattle.exports.proofs.pintlecup_lowest_free.Statement as stated
@@ -120,4 +120,4 @@ pintlecup-lowest-free-spec 𝓤 H 𝓜 𝓖 𝓡 =
     entered 𝓤 H (tripleOf 𝓤 H (𝓖 .A) f.signature (f.spec 𝓤 H (𝓖 .A) (𝓜 .mem) (𝓡 .run)))
     (tables 𝓤 H 𝓜 𝓡 code.env .C) (tables 𝓤 H 𝓜 𝓡 code.env .Λ) key.name code.function (code.unfolded 𝓤 H 𝓜 𝓡)
     (meets 𝓤 H (𝓖 .A) (givenOf 𝓤 H 𝓜 𝓖) (𝓜 .mem) (𝓡 .run) (tablesOf 𝓤 H 𝓜 (tables 𝓤 H 𝓜 𝓡 code.env))
-    (cited 𝓤 H (Work 𝓤 H (𝓖 .A) (𝓜 .mem) (𝓡 .run)) 𝓜 𝓡 code.env work.name work.routine code.calls-exports·values·lowest-free (known.met 𝓤 H 𝓜 𝓖 𝓡)))
+    (cited 𝓤 H (Work 𝓤 H (𝓖 .A) (𝓜 .mem) (𝓡 .run)) 𝓜 𝓡 code.env work.name work.routine code.calls-held·lowest-free (known.met 𝓤 H 𝓜 𝓖 𝓡)))

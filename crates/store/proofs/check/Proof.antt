@@ -4,8 +4,8 @@ use mathlib.Core.Path.{_≡_, sym, ap, ap₂, _∙_}
 use mathlib.Core.Bool.{true, false}
 use Rattle.state.specs.Sizes.{width}
 use Rattle.state.specs.TakePut.{seen}
-use Rattle.state.specs.Check.{checkOf, agrees, takeEach, takeAll, putEach, putAll, writeAll, acceptance, rejection}
-use Rattle.state.specs.declared.Verdict.the-variants.{Accept, Reject}
+use Rattle.state.specs.Check.{checkOf, agrees, reason, takeEach, takeAll, putEach, putAll, writeAll, acceptance, rejection}
+use Rattle.state.specs.declared.Verdict.the-variants.{Accept}
 use Rattle.entries.specs.Tag.{tag}
 use Rattle.state.proofs.Ready.{check-ready, call-done}
 use Rattle.store.proofs.Answers.{refused-seen}
@@ -47,13 +47,15 @@ returns-2 c =
 returns-3 : tie.Need-returns-3
 unfolding checkOf rejection takeAll
 returns-3 c =
-    let a = c .before .before in
+    let q = c .before in
+    let a = q .before .before in
     let d = a .before .before .before .before in
     let b = d .before in
     let x = b .before .before .before .args in
-    let e : agrees (takeEach width tag (x .s .marks) (x .s) (x .store .now)) ≡ false = sym (ap agrees (a .before .take-each .ensures)) ∙ sym (a .agrees .ensures) ∙ c .before .if2 .left in
+    let t = a .before .take-each .ensures in
+    let e : agrees (takeEach width tag (x .s .marks) (x .s) (x .store .now)) ≡ false = sym (ap agrees t) ∙ sym (a .agrees .ensures) ∙ q .before .if2 .left in
     rw (call-done _ (x .s) (x .store .now) _ _ (sym (b .check .ensures) ∙ d .if1 .left), e)
-    (ap (λ s. seen 0 Reject s (x .store .now) _) (c .close .ensures))
+    (ap₂ (λ v s. seen 0 v s (x .store .now) _) (q .reason .ensures ∙ ap reason t) (c .close .ensures))
 
 pub check-spec : {M : Type 1} → statement M
 check-spec =
@@ -68,6 +70,7 @@ check-spec =
     put-each-requires
     (λ c. search needs)
     returns-2
+    (λ c κs. search needs)
     (λ c κs. search needs)
     (λ c. search needs)
     returns-3)

@@ -1,0 +1,14 @@
+-- `held::store` meets its contract: the call's own, in place. Assumes nothing.
+use borrow.Author.Needs.{needs}
+use Rattle.held.proofs.Place.{placed}
+use Rattle.held.proofs.store.Statement.{statement}
+use Rattle.held.proofs.store.Tie as tie
+
+returns : tie.Need-returns
+returns c =
+    let b = c .before .before .before .before in
+    let e = rw (b .before .before .state-of .ensures) at (b .store .ensures) in
+    placed _ _ _ _ _ _ (c .remains .ensures) e
+
+pub store-spec : {M : Type 1} → statement M
+store-spec = tie.close (tie.spec (λ c κs. search needs) (λ c κs. search needs) (λ c κs. search needs) (λ c. search needs) returns)
