@@ -1,24 +1,23 @@
 -- Every number that a command answers is one digit, since the rows' numbers are; and an address that it answers, or that the state keeps, fits two bytes, since
 -- takes are at addresses. Assumes nothing.
 use mathlib.Core.Path.{_≡_, refl}
-use mathlib.Core.Bool.{Bool, true, false, cond, not, _&&_}
+use mathlib.Core.Bool.{Bool, true, false, cond, _&&_}
 use mathlib.Core.List.{List, [], _∷_}
-use Prim.Native.Nat.{ℕ, zero, suc, _≤_, _<_}
+use Prim.Native.Nat.{ℕ, zero, suc, _<_}
 use native.Mathlib.Omega.{arith}
 use borrow.Author.Tests.{ltb-true}
 use lib.Dec.{T, ltb}
 use Rattle.refusal.specs.Refusal.{Row, first}
 use Rattle.state.specs.Sizes.{width, addresses}
-use Rattle.state.specs.Marks.{used}
-use Rattle.state.specs.Cells.{stampAt, entryAt}
+use Rattle.state.specs.Cells.{entryAt}
 use Rattle.state.specs.TakePut.{Seen, seen, Outcome, withMarks, close, takeEntry, putEntry}
 use Rattle.state.specs.Access.{addressRow, addRows, exchangeRows, removeRows, call, added, addOf, loaded, loadOf, stored, storeOf, removed, removeOf}
 use Rattle.state.specs.Check.{checkRows, agrees, reason, takeAll, acceptance, rejection, checkOf}
 use Rattle.state.specs.declared.State.{State}
 use Rattle.state.specs.declared.Verdict.the-variants.{Stamp, Tag, Nothing}
-use Rattle.state.proofs.Walks.{takeEachBelow, takeBelow, take-all}
-use Rattle.state.proofs.Guards.{opens}
-use Rattle.state.proofs.Ready.{exchange-ready, remove-ready}
+use Rattle.state.proofs.Walks.{by-takes}
+use Rattle.state.proofs.Guards.{take-first, opens}
+use Rattle.state.proofs.Ready.{by-rows, exchange-ready, remove-ready}
 use Rattle.entries.specs.Tag.{tag}
 use Rattle.lines.specs.declared.Command.{Command}
 use Rattle.lines.specs.declared.Command.the-variants.{Add, Store, Load, Remove, Check, Spoil, Bad}
@@ -52,33 +51,13 @@ given-done : (s : State) (m o : List ℕ) → Kept s → Given (seen 0 Nothing s
 given-done s m o k = record { number = omega arith; short = omega arith; kept = k }
 
 given-call : (rows : List Row) (s : State) (m o : List ℕ) (x : Outcome) → T (small rows) → Kept s → (first rows ≡ 0 → Given (x .seen)) → Given (call rows s m o x .seen)
-unfolding call
-given-call rows s m o x t k g = go (first rows) refl (first-small rows t)
-  where
-    go : (n : ℕ) → first rows ≡ n → first rows < 10 → Given (call rows s m o x .seen)
-    go zero q h = rw q (g q)
-    go (suc n) q h = rw q (record { number = rw q at h; short = rw q at h; kept = k })
+given-call rows s m o x t k g =
+    by-rows s m (λ (r : Outcome). Given (r .seen)) rows o x g (λ n q. let h = rw q at (first-small rows t) in record { number = h; short = h; kept = k })
 
--- takes at addresses keep one of them, or the address that there was
+-- a take at an address leaves the first fault's there, or where it was
 take-kept : (s : State) (m : List ℕ) (a : ℕ) → a < addresses → Kept s → Kept (takeEntry tag s (entryAt width m a))
-unfolding takeEntry entryAt addresses
-take-kept s m a h k = go (not (s .fault) && ltb (s .clock) (stampAt width m a))
-  where
-    go : (b : Bool) → cond b a (s .first) < 65536
-    go true = omega arith
-    go false = k
-
-takes-kept : (ws : List ℕ) (s : State) (m : List ℕ) (n : ℕ) → n ≤ addresses → Kept s → Kept (takeEachBelow width tag ws s m n)
-unfolding takeEachBelow
-takes-kept ws s m zero h k = k
-takes-kept ws s m (suc n) h k = go (used ws n) (takes-kept ws s m n (omega arith) k)
-  where
-    t : State
-    t = takeEachBelow width tag ws s m n
-
-    go : (b : Bool) → Kept t → Kept (cond b (takeEntry tag t (entryAt width m n)) t)
-    go true r = take-kept t m n h r
-    go false r = r
+unfolding entryAt addresses
+take-kept s m a h k = take-first tag s (λ n. n < 65536) (entryAt width m a) k (omega arith)
 
 reason-short : (s : State) → Kept s → Short (checkAnswer 0 (reason s))
 unfolding reason
@@ -89,7 +68,7 @@ reason-short s k = go (s .fault)
     go false = tt
 
 given-check : (s : State) (m : List ℕ) → Kept s → Given (checkOf width tag s m .seen)
-unfolding small checkOf checkRows acceptance rejection close takeBelow
+unfolding small checkOf checkRows acceptance rejection close
 given-check s m k = given-call (checkRows width s m) s m [] _ tt k (λ e. go (agrees t))
   where
     t : State
@@ -97,7 +76,7 @@ given-check s m k = given-call (checkRows width s m) s m [] _ tt k (λ e. go (ag
 
     go : (b : Bool) → Given (cond b (acceptance width tag s m) (rejection width tag s m) .seen)
     go true = record { number = omega arith; short = tt; kept = rw (opens width tag s m .first) k }
-    go false = record { number = omega arith; short = reason-short t (rw (take-all width tag s m) (takes-kept (s .marks) s m addresses (omega arith) k)); kept = k }
+    go false = record { number = omega arith; short = reason-short t (by-takes width tag Kept m (λ r a. take-kept r m a) s k); kept = k }
 
 load-short : (n b : ℕ) → n < 10 → Short (loadAnswer n b)
 load-short zero b h = tt

@@ -11,12 +11,12 @@ use Rattle.state.specs.declared.Seal.{Seal}
 use Rattle.state.specs.declared.State.{State}
 use Rattle.state.specs.declared.Verdict.the-variants.{Accept}
 use Rattle.state.proofs.Guards.{reason-rejects}
+use Rattle.state.proofs.Ready.{by-rows}
 use Rattle.bag.proofs.Lists.{no-place}
 use Rattle.bag.proofs.Cases.{by-cond}
 use Rattle.run.specs.Calls.{Call, check, Made, made, outcomeOf, events}
 use Rattle.run.specs.Demand3.{stateAfter, result, eventsOf, upTo, Accepts}
 use Rattle.run.proofs.Does.{still, does}
-use Rattle.run.proofs.Steps.{by-rows}
 use Rattle.run.proofs.Runs.{CallOf, call-of}
 use Rattle.run.proofs.FromStart.{events-append, doneBy, events-none, events-last, run-did}
 
@@ -26,7 +26,7 @@ unfolding outcomeOf checkOf acceptance rejection
 accepts-gives w tag s m =
     by-rows s m (λ (r : Outcome). r .seen .verdict ≡ Accept → r ≡ acceptance w tag s m) (checkRows w s m) [] _
     (λ e. by-cond (λ (r : Outcome). r .seen .verdict ≡ Accept → r ≡ acceptance w tag s m) (agrees (takeAll w tag s m)) (λ k v. refl) (λ k v. reason-rejects (takeAll w tag s m) v))
-    (λ n v. let z : _≡_ {A = ℕ} 0 1 = cc in absurd (omega arith))
+    (λ n q v. let z : _≡_ {A = ℕ} 0 1 = cc in absurd (omega arith))
 
 module _ (w : ℕ) (tag : Seal → Entry → List ℕ) (key : List ℕ) where
   -- a check of the run that accepts, what was done up to its verdict being `past`

@@ -16,7 +16,7 @@ use Rattle.state.specs.Check.{checkRows, agrees, takes, takeAll, acceptance, re
 use Rattle.state.specs.declared.Seal.{Seal}
 use Rattle.state.specs.declared.State.{State}
 use Rattle.state.specs.declared.Verdict.the-variants.{Stamp, Tag}
-use Rattle.state.proofs.Ready.{call-done, check-ready}
+use Rattle.state.proofs.Ready.{call-done, done-rows, check-ready}
 use Rattle.state.proofs.Guards.{accepts-tells, equal-accepts, says-stamp, says-tag}
 use Rattle.bag.specs.Bag.{Bag, empty, there, noted, follow}
 use Rattle.bag.specs.Law.{Along, Bare, May, Lawful}
@@ -31,7 +31,6 @@ use Rattle.run.specs.Demand3.{NoTwoAlike, putIn, takenIn, Since, stateAf
 use Rattle.run.specs.Exact.{tick, clockAfter, NoneAhead, AheadFirstAt, OnePeriod, Told, StateExact, CheckExact, ReasonExact}
 use Rattle.run.proofs.Checks.{taken-lawful, taken-bare, taken-follows}
 use Rattle.run.proofs.Does.{Fit}
-use Rattle.run.proofs.Steps.{done-rows}
 use Rattle.run.proofs.FromStart.{bagOf, invariant}
 use Rattle.run.proofs.Periods.{begun, since-puts, since-takes, since-now, since-one}
 

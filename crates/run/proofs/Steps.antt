@@ -3,17 +3,16 @@
 use mathlib.Core.Path.{_≡_, refl, sym, _∙_}
 use mathlib.Core.Bool.{true, false, cond, false≢true}
 use mathlib.Core.List.{List, []}
-use Prim.Native.Nat.{ℕ, zero, suc}
+use Prim.Native.Nat.{ℕ}
 use native.Mathlib.Omega.{arith}
-use Rattle.refusal.specs.Refusal.{Row, first, done}
+use Rattle.refusal.specs.Refusal.{Row, first}
 use Rattle.state.specs.Cells.{Entry}
-use Rattle.state.specs.TakePut.{seen, Outcome}
+use Rattle.state.specs.TakePut.{Outcome}
 use Rattle.state.specs.Access.{addRows, exchangeRows, removeRows, call, added, addOf, loaded, loadOf, stored, storeOf, removed, removeOf}
 use Rattle.state.specs.Check.{checkRows, agrees, takeAll, acceptance, rejection, checkOf}
 use Rattle.state.specs.declared.Seal.{Seal}
 use Rattle.state.specs.declared.State.{State}
-use Rattle.state.specs.declared.Verdict.the-variants.{Nothing}
-use Rattle.state.proofs.Ready.{add-ready, exchange-ready, remove-ready, check-ready}
+use Rattle.state.proofs.Ready.{by-rows, add-ready, exchange-ready, remove-ready, check-ready}
 use Rattle.bag.specs.Bag.{Bag}
 use Rattle.bag.specs.Following.{Follows}
 use Rattle.run.specs.Calls.{Call, add, load, store, remove, check, look, count, lowest, touches, idle, outcomeOf}
@@ -21,27 +20,12 @@ use Rattle.run.proofs.Does.{Fit, Does, Did, still, does}
 use Rattle.run.proofs.Access.{add-does, load-does, store-does, remove-does}
 use Rattle.run.proofs.Checks.{check-does}
 
--- what holds of a call that is done, and of one that is refused, holds of it
-module _ (s : State) (m : List ℕ) where
-  pub by-rows : (P : Outcome → Type 0) (rows : List Row) (o : List ℕ) (x : Outcome) → (first rows ≡ 0 → P x) → ((n : ℕ) → P (record { seen = seen (suc n) Nothing s m o; events = [] }))
-      → P (call rows s m o x)
-  unfolding call
-  by-rows P rows o x f g = go (first rows) f
-    where
-      go : (n : ℕ) → (n ≡ 0 → P x) → P (done n x (record { seen = seen n Nothing s m o; events = [] }))
-      go zero f = f refl
-      go (suc n) f = g n
-
-  -- where a call gives 0 no row holds
-  pub done-rows : (rows : List Row) (o : List ℕ) (x : Outcome) → call rows s m o x .seen .number ≡ 0 → first rows ≡ 0
-  done-rows rows o x = by-rows (λ (r : Outcome). r .seen .number ≡ 0 → first rows ≡ 0) rows o x (λ e z. e) (λ n z. absurd (omega arith))
-
 module _ (w : ℕ) (tag : Seal → Entry → List ℕ) (seal : Seal) (s : State) (m : List ℕ) (b : Bag) (known : s .closed ≡ false → Follows tag seal s b × Fit s b) where
   -- a call that takes or puts: refused, or done from a state that is not closed
   moving : (c : Call) → touches c ≡ true → (rows : List Row) (o : List ℕ) (x : Outcome) → (first rows ≡ 0 → s .closed ≡ false)
       → (first rows ≡ 0 → Follows tag seal s b → Fit s b → Does w tag seal s m b c x) → Did w tag seal s m b c (call rows s m o x)
   moving c y rows o x ready h =
-      by-rows s m (Did w tag seal s m b c) rows o x (λ e. let k = known (ready e) in does (ready e) y (h e (k .0) (k .1))) (λ n. still (record { state = refl; store = refl; events = refl; verdict = refl; idle = λ z. absurd (omega arith) }))
+      by-rows s m (Did w tag seal s m b c) rows o x (λ e. let k = known (ready e) in does (ready e) y (h e (k .0) (k .1))) (λ n q. still (record { state = refl; store = refl; events = refl; verdict = refl; idle = λ z. absurd (omega arith) }))
 
   unmoved : (c : Call) → touches c ≡ false → Did w tag seal s m b c (idle s m)
   unmoved c n = still (record { state = refl; store = refl; events = refl; verdict = refl; idle = λ z y. false≢true (sym n ∙ y) })

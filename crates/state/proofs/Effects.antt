@@ -9,14 +9,14 @@ use native.Mathlib.Omega.{arith}
 use lib.Dec.{eqb}
 use lib.ListN.{length, take, drop, replicate, length-map, replicate-append-replicate}
 use borrow.Author.Tests.{eqb-true, eqb-false}
-use Rattle.refusal.specs.Refusal.{Row, first, done}
+use Rattle.refusal.specs.Refusal.{Row, first}
 use Rattle.octets.specs.Layout.{total, split, octets, bytes}
 use Rattle.octets.specs.Places.{xor}
 use Rattle.state.specs.Sizes.{addresses, valueSize, cellSize, storeSize}
 use Rattle.state.specs.Marks.{used, inUse}
 use Rattle.state.specs.Cells.{Entry, entry, valueAt, stampAt, entryAt, writeCell, writeEntry}
 use Rattle.state.specs.Multiset.{emptyHash, withTag}
-use Rattle.state.specs.TakePut.{Seen, seen, Outcome, outcome, withMarks, close, next, takeEntry, putEntry}
+use Rattle.state.specs.TakePut.{Seen, seen, Outcome, withMarks, close, next, takeEntry, putEntry}
 use Rattle.state.specs.Access.{addRows, exchangeRows, removeRows, call, added, loaded, stored, removed, addOf, loadOf, storeOf, removeOf}
 use Rattle.state.specs.Check.{checkRows, taken, opening, reput, opened, agrees, reason, takeAll, putAll, acceptance, rejection, checkOf}
 use Rattle.state.specs.Calls.{calls}
@@ -25,14 +25,14 @@ use Rattle.state.specs.Effects.{Typed, SomeAhead, FoundAt, NoneFound, ce
 use Rattle.state.specs.declared.Hash.{Hash}
 use Rattle.state.specs.declared.Seal.{Seal}
 use Rattle.state.specs.declared.State.{State}
-use Rattle.state.specs.declared.Verdict.the-variants.{Accept, Nothing}
+use Rattle.state.specs.declared.Verdict.the-variants.{Accept}
 use Rattle.state.proofs.Cells.{cell-written, cell-other, value-length}
 use Rattle.state.proofs.InUse.{in-use-only, in-use-all, in-use-rising}
 use Rattle.state.proofs.Walks.{putBelow, write-all, puts-length}
 use Rattle.state.proofs.Joins.{tags-join, Taken, taken-each, put-each, put-seal}
 use Rattle.state.proofs.Marked.{unset, marked-used, used-marks, set-mark, clear-mark}
 use Rattle.state.proofs.Guards.{agrees-tells, equal-agrees, opens}
-use Rattle.state.proofs.Ready.{call-done, call-refused, check-ready, add-ready, remove-ready}
+use Rattle.state.proofs.Ready.{call-done, by-rows, done-rows, check-ready, add-ready, remove-ready}
 
 bytes-zero : (w : ℕ) → bytes w 0 ≡ replicate w 0
 unfolding bytes split
@@ -43,23 +43,11 @@ bytes-zero (suc w) = ap₂ _∷_ (ap (λ (n : ℕ). n % 2 ^ 8) (zero-div (2 ^ to
 
 -- its rows do not hold, and it is what it is where none does
 pub done-is : (rows : List Row) (s : State) (m o : List ℕ) (x : Outcome) → call rows s m o x .seen .number ≡ 0 → (first rows ≡ 0) × (call rows s m o x ≡ x)
-done-is rows s m o x e = go (first rows) refl
-  where
-    go : (n : ℕ) → first rows ≡ n → (first rows ≡ 0) × (call rows s m o x ≡ x)
-    go zero q = (q, call-done rows s m o x q)
-    go (suc n) q =
-        let r = call-refused rows s m o x (λ z. let y : suc n ≡ 0 = sym q ∙ z in absurd (omega arith)) in
-        let y : suc n ≡ 0 = sym q ∙ sym (ap (λ (r : Outcome). r .seen .number) r) ∙ e in
-        absurd (omega arith)
+done-is rows s m o x e = let z = done-rows s m rows o x e in (z, call-done rows s m o x z)
 
 -- the marks are as they were, also where it is refused
 marks-kept : (rows : List Row) (s : State) (m o : List ℕ) (x : Outcome) → x .seen .state .marks ≡ s .marks → call rows s m o x .seen .state .marks ≡ s .marks
-unfolding call
-marks-kept rows s m o x e = go (first rows)
-  where
-    go : (n : ℕ) → done n x (outcome (seen n Nothing s m o) []) .seen .state .marks ≡ s .marks
-    go zero = e
-    go (suc n) = refl
+marks-kept rows s m o x e = by-rows s m (λ (r : Outcome). r .seen .state .marks ≡ s .marks) rows o x (λ z. e) (λ n q. refl)
 
 module _ (w : ℕ) (tag : Seal → Entry → List ℕ) where
   joins : (seal : Seal) (h : Hash) (es : List Entry) → h .number < 2 ^ 32 → foldl withTag h (map (tag seal) es) ≡ joined w tag seal h es

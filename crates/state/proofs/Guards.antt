@@ -38,6 +38,15 @@ module _ (tag : Seal → Entry → List ℕ) (s : State) where
   unfolding takeEntry
   take-calm e f h = let l = le-ltb (s .clock) (e .stamp) h in (ap₂ _||_ f l, ap₂ (λ b c. cond (not b && c) (e .address) (s .first)) f l)
 
+  -- after a take the first fault's address is what it was, or the entry's
+  pub take-first : (P : ℕ → Type 0) (e : Entry) → P (s .first) → P (e .address) → P (takeEntry tag s e .first)
+  unfolding takeEntry
+  take-first P e h k = go (not (s .fault) && ltb (s .clock) (e .stamp))
+    where
+      go : (b : Bool) → P (cond b (e .address) (s .first))
+      go true = k
+      go false = h
+
 -- the hashes are equal and no fault is marked
 pub agrees-tells : (t : State) → agrees t ≡ true → (t .put ≡ t .take) × (t .fault ≡ false)
 unfolding agrees
@@ -63,7 +72,7 @@ module _ (w : ℕ) (tag : Seal → Entry → List ℕ) (s : State) (m : List ℕ
   t = takeAll w tag s m
 
   -- what a check that is not refused says, by the state after its takes
-  verdict-is : first (checkRows w s m) ≡ 0 → checkOf w tag s m .seen .verdict ≡ cond (agrees t) Accept (reason t)
+  pub verdict-is : first (checkRows w s m) ≡ 0 → checkOf w tag s m .seen .verdict ≡ cond (agrees t) Accept (reason t)
   unfolding checkOf call acceptance rejection
   verdict-is e = ap (λ (n : ℕ). done n (cond (agrees t) (acceptance w tag s m) (rejection w tag s m)) (outcome (seen n Nothing s m []) []) .seen .verdict) e ∙ go (agrees t)
     where

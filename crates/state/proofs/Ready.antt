@@ -1,13 +1,14 @@
 -- What a call is that is done and that is refused, and what one that is done may rely on: none of its rows holds. Assumes nothing.
 use borrow.Author.Tests.{eqb-true, eqb-false, ltb-true, not-false}
-use mathlib.Core.Path.{_≡_}
+use mathlib.Core.Path.{_≡_, refl}
 use mathlib.Core.Bool.{Bool, true, false, not}
 use mathlib.Core.List.{List, [], _∷_}
 use mathlib.Core.Logic.{_≢_}
-use Prim.Native.Nat.{ℕ, _*_, _<_}
+use Prim.Native.Nat.{ℕ, zero, suc, _*_, _<_}
+use native.Mathlib.Omega.{arith}
 use lib.Dec.{T}
 use lib.ListN.{length}
-use Rattle.refusal.specs.Refusal.{Row, when, first}
+use Rattle.refusal.specs.Refusal.{Row, when, first, done}
 use Rattle.refusal.proofs.Passed.{NoneHolds, done-zero, done-other, numbered, none-holds}
 use Rattle.state.specs.Sizes.{addresses, valueSize, cellSize, storeSize, ceiling}
 use Rattle.state.specs.Marks.{used}
@@ -26,6 +27,21 @@ pub call-refused : (rows : List Row) (s : State) (m o : List ℕ) (x : Outcome) 
     → call rows s m o x ≡ outcome (seen (first rows) Nothing s m o) []
 unfolding call
 call-refused rows s m o x h = done-other (first rows) x (outcome (seen (first rows) Nothing s m o) []) h
+
+-- what holds of a call that is done, and of one that is refused by its number, holds of it
+module _ (s : State) (m : List ℕ) where
+  pub by-rows : (P : Outcome → Type 0) (rows : List Row) (o : List ℕ) (x : Outcome) → (first rows ≡ 0 → P x)
+      → ((n : ℕ) → first rows ≡ suc n → P (outcome (seen (suc n) Nothing s m o) [])) → P (call rows s m o x)
+  unfolding call
+  by-rows P rows o x f g = go (first rows) f g
+    where
+      go : (n : ℕ) → (n ≡ 0 → P x) → ((k : ℕ) → n ≡ suc k → P (outcome (seen (suc k) Nothing s m o) [])) → P (done n x (outcome (seen n Nothing s m o) []))
+      go zero f g = f refl
+      go (suc n) f g = g n refl
+
+  -- where a call gives 0 no row holds
+  pub done-rows : (rows : List Row) (o : List ℕ) (x : Outcome) → call rows s m o x .seen .number ≡ 0 → first rows ≡ 0
+  done-rows rows o x = by-rows (λ (r : Outcome). r .seen .number ≡ 0 → first rows ≡ 0) rows o x (λ e z. e) (λ n q z. absurd (omega arith))
 
 -- what a call on an address may rely on, the mark of the address being u; and what one that puts may
 pub record Ready (w : ℕ) (s : State) (m : List ℕ) (a : ℕ) (u : Bool) : Type 0 where

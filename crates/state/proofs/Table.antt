@@ -1,15 +1,15 @@
 -- Each row of a call tests its condition of the table, and a refused call is what it was given. Assumes nothing.
-use mathlib.Core.Path.{_≡_, refl, sym, ap, _∙_}
+use mathlib.Core.Path.{_≡_, refl, sym, ap, _∙_, subst}
 use mathlib.Core.Bool.{Bool, true, false, cond}
 use mathlib.Core.List.{List, [], _∷_}
 use mathlib.Core.Logic.{_⊎_, inl, inr, _≢_, ⊎-elim}
-use Prim.Native.Nat.{ℕ, zero, suc, _+_, _-_, _*_, _/_, _%_, _^_, _<_}
+use Prim.Native.Nat.{ℕ, _+_, _-_, _*_, _/_, _%_, _^_, _<_}
 use native.Mathlib.Omega.{arith}
 use lib.Dec.{ltb}
 use lib.ListN.{length, getD}
 use borrow.Author.Tests.{eq-eqb, ltb-true, ltb-false, lt-ltb, not-true, not-false}
 use Rattle.refusal.specs.Refusal.{Row, first}
-use Rattle.refusal.specs.Cases.{Case, given}
+use Rattle.refusal.specs.Cases.{Case, given, FirstOf}
 use Rattle.refusal.proofs.Cases.{Tests, TestsAll, flag, equal, differ, first-of}
 use Rattle.refusal.proofs.Passed.{done-zero, done-other}
 use Rattle.state.specs.Sizes.{keySize, words, addresses, valueSize, cellSize, storeSize, ceiling}
@@ -27,7 +27,8 @@ use Rattle.state.specs.declared.State.{State}
 use Rattle.state.specs.declared.Verdict.{Verdict}
 use Rattle.state.specs.declared.Verdict.the-variants.{Accept, Stamp, Tag, Nothing}
 use Rattle.state.proofs.Cells.{value-length}
-use Rattle.state.proofs.Ready.{call-done, call-refused, look-ready, look-done, look-refused}
+use Rattle.state.proofs.Ready.{by-rows, done-rows, look-ready, look-done, look-refused}
+use Rattle.state.proofs.Guards.{verdict-is}
 
 -- ---- tests
 
@@ -47,18 +48,12 @@ absent s a = let t = differ 5 ((getD (s .marks) (a / 64) 0 / 2 ^ (a % 64)) % 2) 
 
 module _ (rows : List Row) (cases : List Case) (s : State) (m o : List ℕ) (x : Outcome) where
   answers : TestsAll rows cases → x .seen .number ≡ 0 → Answers cases (call rows s m o x .seen) s m o
-  answers t z = record { number = rw (same (first rows) refl) (first-of rows cases t); unchanged = unchanged (first rows) refl }
-    where
-      same : (n : ℕ) → first rows ≡ n → call rows s m o x .seen .number ≡ first rows
-      same zero e = rw (call-done rows s m o x e) (z ∙ sym e)
-      same (suc n) e = ap (λ (r : Outcome). r .seen .number) (call-refused rows s m o x (λ q. let y : suc n ≡ 0 = sym e ∙ q in absurd (omega arith)))
-
-      unchanged : (n : ℕ) → first rows ≡ n → call rows s m o x .seen .number ≢ 0
-          → (call rows s m o x .seen .state ≡ s) × (call rows s m o x .seen .store ≡ m) × (call rows s m o x .seen .out ≡ o) × (call rows s m o x .seen .verdict ≡ Nothing)
-      unchanged zero e h = absurd (h (same zero e ∙ e))
-      unchanged (suc n) e h =
-          let r = call-refused rows s m o x (λ q. let y : suc n ≡ 0 = sym e ∙ q in absurd (omega arith)) in
-          (ap (λ (r : Outcome). r .seen .state) r, ap (λ (r : Outcome). r .seen .store) r, ap (λ (r : Outcome). r .seen .out) r, ap (λ (r : Outcome). r .seen .verdict) r)
+  answers t z = record {
+    number = let f = first-of rows cases t in by-rows s m (λ (r : Outcome). FirstOf cases (r .seen .number)) rows o x (λ e. subst (FirstOf cases) (e ∙ sym z) f) (λ n q. subst (FirstOf cases) q f);
+    unchanged =
+        by-rows s m (λ (r : Outcome). r .seen .number ≢ 0 → (r .seen .state ≡ s) × (r .seen .store ≡ m) × (r .seen .out ≡ o) × (r .seen .verdict ≡ Nothing)) rows o x
+        (λ e h. absurd (h z)) (λ n q h. (refl, refl, refl, refl));
+  }
 
 either-zero : (b : Bool) (x y : Outcome) → x .seen .number ≡ 0 → y .seen .number ≡ 0 → cond b x y .seen .number ≡ 0
 either-zero true x y p q = p
@@ -76,29 +71,16 @@ module _ (w : ℕ) (tag : Seal → Entry → List ℕ) where
   Says v = (v ≡ Accept) ⊎ ((v ≡ Tag) ⊎ ((a : ℕ) × (v ≡ Stamp a)))
 
   check-says : (s : State) (m : List ℕ) → checkOf w tag s m .seen .number ≡ 0 → Says (checkOf w tag s m .seen .verdict)
-  unfolding checkOf acceptance rejection reason
-  check-says s m h = go (first (checkRows w s m)) refl
+  unfolding checkOf reason
+  check-says s m h = subst Says (sym (verdict-is w tag s m (done-rows s m (checkRows w s m) [] _ h))) (said (agrees t) (t .fault))
     where
       t : State
       t = takeAll w tag s m
 
-      x : Outcome
-      x = cond (agrees t) (acceptance w tag s m) (rejection w tag s m)
-
-      why : (b : Bool) → Says (cond b (Stamp (t .first)) Tag)
-      why true = inr (inr (t .first, refl))
-      why false = inr (inl refl)
-
-      said : (b : Bool) → Says (cond b (acceptance w tag s m) (rejection w tag s m) .seen .verdict)
-      said true = inl refl
-      said false = why (t .fault)
-
-      go : (n : ℕ) → first (checkRows w s m) ≡ n → Says (call (checkRows w s m) s m [] x .seen .verdict)
-      go zero e = rw (call-done (checkRows w s m) s m [] x e) (said (agrees t))
-      go (suc n) e =
-          let r = call-refused (checkRows w s m) s m [] x (λ q. let y : suc n ≡ 0 = sym e ∙ q in absurd (omega arith)) in
-          let y : suc n ≡ 0 = sym e ∙ sym (ap (λ (r : Outcome). r .seen .number) r) ∙ h in
-          absurd (omega arith)
+      said : (b c : Bool) → Says (cond b Accept (cond c (Stamp (t .first)) Tag))
+      said true c = inl refl
+      said false true = inr (inr (t .first, refl))
+      said false false = inr (inl refl)
 
   pub look-first : (m : List ℕ) (a : ℕ) → length m ≡ storeSize w → a < addresses → first (lookRows w m a) ≡ 0
   unfolding lookRows

@@ -1,5 +1,5 @@
 -- A walk address by address: the state and the store after the marked addresses below n, and that after the last address they are the walk's. Assumes nothing.
-use mathlib.Core.Path.{_≡_, refl, sym, ap, _∙_}
+use mathlib.Core.Path.{_≡_, refl, sym, ap, _∙_, subst}
 use mathlib.Core.Bool.{Bool, true, false, cond}
 use mathlib.Core.List.{List, [], _∷_, map, map-append, map-map, foldl, foldl-append}
 use Prim.Native.Nat.{ℕ, zero, suc, _≤_, _<_}
@@ -98,3 +98,16 @@ module _ (w : ℕ) (tag : Seal → Entry → List ℕ) where
   pub take-all : (s : State) (m : List ℕ) → takeAll w tag s m ≡ takeBelow s m addresses
   unfolding takeAll takeBelow
   take-all s m = take-each (s .marks) s m
+
+  -- what a take at an address keeps, all of a check's keep
+  pub by-takes : (P : State → Type 0) (m : List ℕ) → ((s : State) (a : ℕ) → a < addresses → P s → P (takeEntry tag s (entryAt w m a))) → (s : State) → P s → P (takeAll w tag s m)
+  unfolding takeBelow takeEachBelow
+  by-takes P m keeps s h = subst P (sym (take-all s m)) (below addresses (omega arith))
+    where
+      below : (n : ℕ) → n ≤ addresses → P (takeEachBelow (s .marks) s m n)
+      below zero l = h
+      below (suc n) l = go (used (s .marks) n) (below n (omega arith))
+        where
+          go : (b : Bool) → P (takeEachBelow (s .marks) s m n) → P (cond b (takeEntry tag (takeEachBelow (s .marks) s m n) (entryAt w m n)) (takeEachBelow (s .marks) s m n))
+          go true k = keeps (takeEachBelow (s .marks) s m n) n l k
+          go false k = k
