@@ -69,8 +69,8 @@ def line_of(data):
     return " ".join(words)
 
 
-def main(arguments):
-    path = pathlib.Path(arguments[0]) if arguments else CASES
+def agree(path, own):
+    """Compares each line of a file with the one that own makes of it, and says whether they agree; gives the exit status."""
     text = path.read_text(encoding="ascii")
     if not text.endswith("\n"):
         print("the file does not end with a line end")
@@ -78,14 +78,19 @@ def main(arguments):
     lines = text[:-1].split("\n")
     for place, line in enumerate(lines, 1):
         try:
-            mine = line_of(bytes.fromhex(line.split(" ")[0]))
+            mine = own(line)
         except ValueError as error:
-            mine = f"no bytes in hex: {error}"
+            mine = f"no case: {error}"
         if mine != line:
-            print(f"line {place} differs\nfile:   {line}\nreader: {mine}")
+            print(f"line {place} differs\nfile: {line}\nmine: {mine}")
             return 1
     print(f"{len(lines)} cases, all agree")
     return 0
+
+
+def main(arguments):
+    path = pathlib.Path(arguments[0]) if arguments else CASES
+    return agree(path, lambda line: line_of(bytes.fromhex(line.split(" ")[0])))
 
 
 if __name__ == "__main__":

@@ -8,6 +8,7 @@ import itertools
 import sys
 
 import reader
+import refused
 
 SPARE, PREFIX = range(14), range(128)
 TESTS = {
@@ -83,25 +84,12 @@ def wrong_readers():
         yield f"{name} backwards", {"seen": backwards(name)}
 
 
-def passes(cases, changes):
-    """Does a reader say what is right of every case?"""
-    return all(said(size, fields, **changes) == right for size, fields, right in cases)
-
-
 def main():
     lines = reader.CASES.read_text(encoding="ascii").splitlines()
     given = [bytes.fromhex(line.split(" ")[0]) for line in lines]
     cases = [(len(data), reader.cut((data + bytes(28))[:28]), reader.read(data)) for data in given]
-    wrong = [f"{len(lines) - len(set(lines))} cases stand twice"] if len(set(lines)) < len(lines) else []
-    count = 0
-    for name, changes in wrong_readers():
-        count += 1
-        if passes(cases, changes):
-            wrong.append(f"passes every case: {name}")
-    if not passes(cases, {}):
-        wrong.append("the right reader is refused too")
-    print("\n".join(wrong) if wrong else f"{count} wrong readers, each refused")
-    return 1 if wrong else 0
+    passes = lambda changes: all(said(size, fields, **changes) == right for size, fields, right in cases)
+    return refused.each("readers", lines, wrong_readers(), passes)
 
 
 if __name__ == "__main__":

@@ -1,4 +1,5 @@
-/* A value added, loaded and checked; a mirror that goes back to an older cell; and one that makes up a stamp. docs/CALLING.md, "An example". */
+/* A value added, loaded and checked; a mirror that goes back to an older cell; one that makes up a stamp; and serials that go round. docs/CALLING.md,
+   "An example". */
 #include <stdio.h>
 #include <string.h>
 
@@ -13,6 +14,16 @@ static void check(pintlecup_state *state) {
     case PINTLECUP_REJECTED_STAMP: printf("check reject stamp %zu\n", address); break;
     case PINTLECUP_REJECTED_TAG: printf("check reject tag\n"); break;
     default: printf("check nothing\n");
+    }
+}
+
+static void compare(const pintlecup_filter *held, const pintlecup_filter *offered) {
+    int32_t distance = 0;
+    switch (pintlecup_compare(held, offered, &distance)) {
+    case PINTLECUP_FORWARD: printf("forward %d\n", (int)distance); break;
+    case PINTLECUP_BACK: printf("back %d\n", (int)distance); break;
+    case PINTLECUP_OTHER_MEMBER: printf("other member\n"); break;
+    case PINTLECUP_NO_ORDER: printf("no order\n"); break;
     }
 }
 
@@ -49,8 +60,8 @@ int main(void) {
     printf("store %d\n", pintlecup_store(&state, mirror, sizeof mirror, address, value, sizeof value));
     memcpy(mirror + PINTLECUP_CELL_BYTES * address, older, sizeof older);
     printf("load %d\n", pintlecup_load(&state, mirror, sizeof mirror, address, out, sizeof out));
-    printf("unpack %d", pintlecup_unpack(out, sizeof out, &loaded));
-    printf(", %s\n", pintlecup_compare(&filter, &loaded) == PINTLECUP_BACK ? "back" : "forward");
+    printf("unpack %d, ", pintlecup_unpack(out, sizeof out, &loaded));
+    compare(&filter, &loaded);
     check(&state);
     printf("load %d\n", pintlecup_load(&state, mirror, sizeof mirror, address, out, sizeof out));
 
@@ -60,5 +71,16 @@ int main(void) {
     mirror[PINTLECUP_CELL_BYTES * 5 + PINTLECUP_VALUE_BYTES] = 1;
     printf("load %d\n", pintlecup_load(&state, mirror, sizeof mirror, 5, out, sizeof out));
     check(&state);
+
+    /* a member's serials that have gone past the last one, one half way round, and another member */
+    pintlecup_filter last = filter, next = filter, half = filter, other = filter;
+    last.serial = 4294967295;
+    next.serial = 0;
+    half.serial = 2147483647;
+    other.member = 64497;
+    compare(&last, &next);
+    compare(&next, &last);
+    compare(&last, &half);
+    compare(&last, &other);
     return 0;
 }

@@ -15,8 +15,8 @@
  *
  * - A pointer is to as many bytes as the size beside it says, or to a struct of its type, and is not NULL, also where the size is 0. There is no
  *   number for this: a wrong pointer is read and written.
- * - What is lent to one call does not overlap, unless all of it is const there. Nothing else writes to it while the call runs: no thread, no signal
- *   handler, no other process that has the store mapped. Between two calls anything may happen to the store, and nothing to the state.
+ * - Two things that are lent to one call do not overlap, unless both are const there. Nothing else writes to them while the call runs: no thread, no
+ *   signal handler, no other process that has the store mapped. Between two calls anything may happen to the store, and nothing to the state.
  * - The state is one struct, from its start on. A copy of it that is put back is an older state, and the next check then accepts older values.
  * - The state and the key are secret, and nobody else can write to them. How long a call takes is not promised to tell nothing of them, and what a
  *   call leaves below the stack is not wiped.
@@ -53,8 +53,9 @@ extern "C" {
 
 /* ---- Numbers
  *
- * 0 is done. Any other is a refusal, but for 254 and 255, which only a check gives. A refused call leaves the state and every lent byte as they were
- * (start and unpack, which write a struct anew, say below what they leave). Where several hold, it is 7 first, then the smallest.
+ * 0 is done. Any other is a refusal, but for 254 and 255, which only a check gives; compare has answers of its own, and 16. A refused call leaves the
+ * state and every lent byte as they were (start and unpack, which write a struct anew, say below what they leave). Where several hold, it is 7 first,
+ * then the smallest.
  */
 
 #define PINTLECUP_DONE 0
@@ -73,6 +74,7 @@ extern "C" {
 #define PINTLECUP_BAD_LENGTHS 13            /* pack, unpack: the lengths are not lawful */
 #define PINTLECUP_PAST_PREFIX 14            /* pack, unpack: a bit past the prefix length is set */
 #define PINTLECUP_NO_MEMBER 15              /* pack, unpack: the member number is 0 */
+#define PINTLECUP_NO_ORDER 16               /* compare: the serials are exactly 2^31 apart */
 #define PINTLECUP_REJECTED_STAMP 254        /* check: the store lied, and a stamp was ahead of the clock */
 #define PINTLECUP_REJECTED_TAG 255          /* check: the store lied, and no stamp was ahead of the clock */
 
@@ -178,11 +180,18 @@ uint8_t pintlecup_pack(const pintlecup_filter *filter, uint8_t *out, size_t out_
 /* The filter record of 28 bytes, whatever the struct held: 0; or 11 to 15, and the filter record is zero in every field. */
 uint8_t pintlecup_unpack(const uint8_t *bytes, size_t bytes_size, pintlecup_filter *filter);
 
-/* Of a filter record held and one offered. */
-#define PINTLECUP_FORWARD 0      /* the offered serial is not the smaller */
-#define PINTLECUP_BACK 1         /* the offered serial is the smaller */
-#define PINTLECUP_OTHER_MEMBER 2 /* the AS numbers differ */
-uint8_t pintlecup_compare(const pintlecup_filter *held, const pintlecup_filter *offered);
+#define PINTLECUP_FORWARD 0
+#define PINTLECUP_BACK 1
+#define PINTLECUP_OTHER_MEMBER 2
+
+/* Whether a filter record that is offered goes back behind the one held, by their key serials. These go round: after 4,294,967,295 comes 0
+ * (RFC 1982 with 32 bits).
+ * 2: other member. The AS numbers differ; the serials are not looked at.
+ * 16: no order. The serials are exactly 2^31 apart, and neither is ahead.
+ * 0: forward. *distance is how far ahead of the held serial the offered one is: 0, where they are equal, to 2,147,483,647.
+ * 1: back. *distance is negative, -1 to -2,147,483,647: the offered serial is so far behind.
+ * With 2 and 16 *distance stays as it was. */
+uint8_t pintlecup_compare(const pintlecup_filter *held, const pintlecup_filter *offered, int32_t *distance);
 
 #ifdef __cplusplus
 }

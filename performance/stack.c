@@ -11,6 +11,7 @@ static pintlecup_state state;
 static pintlecup_filter filter = {PINTLECUP_IPV6, PINTLECUP_PERMIT, 128, 128, 64496, 7, {0x20, 0x01}};
 static uint8_t cells[PINTLECUP_STORE_BYTES], value[PINTLECUP_VALUE_BYTES], bytes[8192], hash[32];
 static size_t address, answer; /* the next address, or the one that a call writes; and what the call gave */
+static int32_t distance;
 
 static uint8_t __attribute__((noipa)) none(void) { return 0; }
 
@@ -28,7 +29,7 @@ static void digest(void) { answer = pintlecup_digest(bytes, PINTLECUP_DIGEST_MES
 static void hmac(void) { answer = pintlecup_hmac(bytes, PINTLECUP_HMAC_KEY_MAX, bytes, PINTLECUP_HMAC_MESSAGE_MAX, hash, sizeof hash); }
 static void pack(void) { answer = pintlecup_pack(&filter, value, sizeof value); }
 static void unpack(void) { answer = pintlecup_unpack(value, sizeof value, &filter); }
-static void compare(void) { answer = pintlecup_compare(&filter, &filter); }
+static void compare(void) { answer = pintlecup_compare(&filter, &filter, &distance); }
 
 /* ---- the painted stack */
 static uint8_t stack[1 << 20] __attribute__((aligned(16)));

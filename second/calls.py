@@ -14,6 +14,7 @@ STORE = CELL * ADDRESSES
 CEILING = 65535
 REJECTED_STAMP = 254
 REJECTED_TAG = 255
+FORWARD, BACK, OTHER_MEMBER, NO_ORDER = 0, 1, 2, 16
 
 HELD = struct.Struct("<32s16Q32sI32sIHBBHH")
 FIELDS = struct.Struct("<BBBBII16s")
@@ -227,9 +228,22 @@ def unpack(a, data, fields):
     return 0, data, FIELDS.pack(family, action, length, longest, member, serial, prefix.to_bytes(16, "big"))
 
 
-def compare(a, held, offered):
+# ---- the comparison
+
+def less(one, two):
+    """RFC 1982, 3.2, of serials of 32 bits: is the first less than the second? By the two cases that it gives."""
+    return (one < two and two - one < 2**31) or (one > two and one - two > 2**31)
+
+
+def compare(a, held, offered, distance):
     (_, _, _, _, member, serial, _), (_, _, _, _, other, offer, _) = FIELDS.unpack(held), FIELDS.unpack(offered)
-    return (2 if member != other else 1 if offer < serial else 0), held, offered
+    if member != other:
+        return OTHER_MEMBER, held, offered, distance
+    if not (serial == offer or less(serial, offer) or less(offer, serial)):
+        return NO_ORDER, held, offered, distance
+    # straight on, or past 0 one way or the other: one of the three is in range
+    (apart,) = [d for d in (offer - serial, offer - serial + 2**32, offer - serial - 2**32) if -(2**31) < d < 2**31]
+    return (BACK if less(offer, serial) else FORWARD), held, offered, struct.pack("<i", apart)
 
 
 # what each call may answer; look and count answer other numbers
@@ -247,5 +261,5 @@ ANSWERS = {
     hmac: {0, 10},
     pack: {0, 11, 13, 14, 15},
     unpack: {0, 11, 12, 13, 14, 15},
-    compare: {0, 1, 2},
+    compare: {FORWARD, BACK, OTHER_MEMBER, NO_ORDER},
 }

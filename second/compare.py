@@ -1,15 +1,17 @@
 #!/usr/bin/env python3
 """Makes calls through the shared library and through calls.py, and compares every answer and every byte that is left.
 
-    second/compare.py [SECONDS [SEED]]     random calls for so long (10), but 15,000 at least, from the seed (1)
+    second/compare.py [SECONDS [SEED]]     the comparison's pairs, then random calls for so long (10), but 15,000 at least, from the seed (1)
     second/compare.py --again FILE         one call again
 
-The calls: any bytes as states, stores and filter records; sizes around every bound; clocks at the ceiling; and runs from a start with a store that
-lies. Each buffer lies between bytes that are known, or against memory that cannot be touched (driver.c). At the end how often each call gave each
-number, how often a check had each reason (REASONS), and 'N calls, 0 differences'. At the first difference the call is printed and written to a file,
-with the command that makes it again, and the exit status is 1; it is 1 too where a call never gave one of its numbers, or a reason was never met.
+The pairs: each edge serial with each, and 12,000 seeded ones. The random calls: any bytes as states, stores and filter records; sizes around every
+bound; clocks at the ceiling; and runs from a start with a store that lies. Each buffer lies between bytes that are known, or against memory that cannot
+be touched (driver.c). At the end how often each call gave each number, how often a check had each reason (REASONS) and two serials were of each kind
+(SERIALS), and 'N calls, 0 differences'. At the first difference the call is printed and written to a file, with the command that makes it again, and
+the exit status is 1; it is 1 too where a call never gave one of its numbers, or a reason or a kind was never met.
 """
 import collections
+import itertools
 import os
 import pathlib
 import random
@@ -33,6 +35,15 @@ HELD = {"key": 32, "marks": 128, "put": 36, "take": 36, "clock": 2, "fault": 1, 
 REASONS = [
     "stamp by load", "stamp by store", "stamp by remove", "stamp by check", "several stamps", "a later one lower", "hashes equal", "hashes differ",
     "after an accept", "made-up address", "tags", "accept with an address", "stamp at the clock",
+]
+# serials at the edges: around 0, around 2^31, around the last one, and some between
+EDGES = [0, 1, 2, 7, 65535, 65536, 2**30, *range(2**31 - 2, 2**31 + 3), 3 * 2**30, 2**32 - 65536, *range(2**32 - 3, 2**32)]
+PAIRS = 12000
+# what is counted of two serials: the answer, with equal serials of one member by themselves; that the way from one to the other is past 0; that it is the
+# longest; of one member, that plain numbers would give another answer; of two, that the serials have no order, or are equal
+SERIALS = [
+    "forward", "back", "equal", "no order", "other member", "forward past 0", "back past 0", "farthest forward", "farthest back",
+    "not as plain numbers", "other member and no order", "other member and equal",
 ]
 
 
@@ -85,6 +96,7 @@ class Comparison:
         self.driver = Driver()
         self.met = collections.Counter()
         self.reasons = collections.Counter()
+        self.serials = collections.Counter()
         self.made = 0
         self.answer = None
 
@@ -131,7 +143,9 @@ class Comparison:
             print(f"{name:12} " + ", ".join(f"{number}: {given.get(number, 0)}" for number in sorted(numbers)))
             missing += [f"{name} never gave {number}" for number in sorted(numbers - set(given))]
         print("reasons      " + ", ".join(f"{reason}: {self.reasons[reason]}" for reason in REASONS))
-        return missing + [f"no check met: {reason}" for reason in REASONS if not self.reasons[reason]]
+        print(f"serials      {self.serials['pairs']} pairs, all agree: " + ", ".join(f"{kind} {self.serials[kind]}" for kind in SERIALS))
+        missing += [f"no check met: {reason}" for reason in REASONS if not self.reasons[reason]]
+        return missing + [f"no pair of serials met: {kind}" for kind in SERIALS if not self.serials[kind]]
 
 
 def field(buffer, at):
@@ -392,7 +406,7 @@ class Asker:
         length = min(length, top) if r.randrange(8) else r.randrange(256)
         longest = r.randrange(min(length, top), top + 1) if r.randrange(8) else r.randrange(256)
         prefix = r.randrange(2**128) >> max(0, 128 - length) << max(0, 128 - length) if r.randrange(8) else r.randrange(2**128)
-        member, serial = r.choice([0, 1, 64496, r.randrange(2**32), r.randrange(2**32)]), r.choice([0, 7, 2**32 - 1, r.randrange(2**32)])
+        member, serial = r.choice([0, 1, 64496, r.randrange(2**32), r.randrange(2**32)]), r.choice([0, 7, 2**31, 2**32 - 1, r.randrange(2**32)])
         return calls.FIELDS.pack(family, r.choice([0, 1, 7]), length, longest, member, serial, prefix.to_bytes(16, "big"))
 
     def laid_out(self, fields):
@@ -414,8 +428,53 @@ class Asker:
             out[r.randrange(len(out))] ^= 1 << r.randrange(8)
             out = bytes(out)
         _, back = self.make(calls.unpack, 0, out, self.bytes(28))
-        self.make(calls.compare, 0, fields, back)
-        self.make(calls.compare, 0, self.fields(), self.fields())
+        self.make(calls.compare, 0, fields, back, self.bytes(4))
+        self.make(calls.compare, 0, self.fields(), self.fields(), self.bytes(4))
+
+    def serials(self):
+        """The comparison of each edge serial with each, of one member and of two; and of PAIRS others, most of them of one member."""
+        for held, offered in itertools.product(EDGES, EDGES):
+            self.pair(held, offered, True)
+            self.pair(held, offered, False)
+        for _ in range(PAIRS):
+            self.pair(*self.two(), self.rng.randrange(8) > 0)
+
+    def two(self):
+        """Two serials: a little apart, or 2^31 and a little, or a power of two, either way; or one at each end of the numbers; or any."""
+        r = self.rng
+        ends = r.sample([r.randrange(50), 2**32 - 1 - r.randrange(50)], 2)
+        held = r.choice([r.choice(EDGES), ends[0], r.randrange(2**32), r.randrange(2**32)])
+        few = r.randint(-3, 3)
+        apart = r.choice([few, 2**31 + few, r.choice([1, -1]) << r.randrange(31), ends[1] - held, r.randrange(2**32)])
+        return held, (held + apart) % 2**32
+
+    def pair(self, held, offered, one):
+        """The comparison of two serials, of one member or of two, with any other fields; and what it met."""
+        r = self.rng
+        member = r.choice([0, 1, 64496, r.randrange(2**32)])
+        other = member if one else member ^ r.choice([1 << r.randrange(32), r.randrange(1, 2**32)])
+        record = lambda *numbers: self.bytes(4) + struct.pack("<II", *numbers) + self.bytes(16)
+        *_, left = self.make(calls.compare, 0, record(member, held), record(other, offered), self.bytes(4))
+        answer, (distance,) = self.compared.answer, struct.unpack("<i", left)
+        ordered = answer in (calls.FORWARD, calls.BACK)
+        if ordered and ((held + distance - offered) % 2**32 or distance == -(2**31) or (distance < 0) != (answer == calls.BACK)):
+            sys.exit(f"from {held} to {offered} both tell of {distance}, and answer {answer}")
+        for kind, holds in [
+            ("pairs", True),
+            ("forward", answer == calls.FORWARD and held != offered),
+            ("back", answer == calls.BACK),
+            ("equal", one and held == offered),
+            ("no order", answer == calls.NO_ORDER),
+            ("other member", answer == calls.OTHER_MEMBER),
+            ("forward past 0", answer == calls.FORWARD and offered < held),
+            ("back past 0", answer == calls.BACK and held < offered),
+            ("farthest forward", ordered and distance == 2**31 - 1),
+            ("farthest back", ordered and distance == 1 - 2**31),
+            ("not as plain numbers", one and answer != (calls.BACK if offered < held else calls.FORWARD)),
+            ("other member and no order", not one and abs(offered - held) == 2**31),
+            ("other member and equal", not one and held == offered),
+        ]:
+            self.compared.serials[kind] += holds
 
 
 def main():
@@ -429,9 +488,10 @@ def main():
     seed = int(sys.argv[2]) if len(sys.argv) > 2 else 1
     built()
     comparison = Comparison()
+    Asker(comparison, seed).serials()
     asker = Asker(comparison, seed)
-    end = time.monotonic() + seconds
-    while time.monotonic() < end or comparison.made < LEAST:
+    end, least = time.monotonic() + seconds, comparison.made + LEAST
+    while time.monotonic() < end or comparison.made < least:
         asker.one()
     missing = comparison.counts()
     for line in missing:

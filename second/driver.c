@@ -5,7 +5,8 @@
  * answer is the result (8 bytes), a byte that is 0 where nothing around a buffer was written, and the buffers' bytes. Numbers go low byte first.
  *
  * A buffer lies between bytes that are known, and at the other end of those is memory that cannot be touched: in the middle (0), or right against that
- * memory with its end (1) or with its beginning (2), so that a byte read past it ends the program.
+ * memory with its end (1) or with its beginning (2), so that a byte read past it ends the program. Where it is a struct or a number its size is a
+ * multiple of its alignment, so that it is aligned each way.
  */
 #define _DEFAULT_SOURCE
 #include <stdio.h>
@@ -74,7 +75,7 @@ static uint64_t called(int call, size_t address) {
     case 11: return pintlecup_hmac((uint8_t *)a, size[0], (uint8_t *)b, size[1], (uint8_t *)c, size[2]);
     case 12: return pintlecup_pack((pintlecup_filter *)a, (uint8_t *)b, size[1]);
     case 13: return pintlecup_unpack((uint8_t *)a, size[0], (pintlecup_filter *)b);
-    case 14: return pintlecup_compare((pintlecup_filter *)a, (pintlecup_filter *)b);
+    case 14: return pintlecup_compare((pintlecup_filter *)a, (pintlecup_filter *)b, (int32_t *)c);
     }
     exit(4);
 }

@@ -17,7 +17,7 @@ ghost use Rattle.filter.specs.Filter.{packOf, unpackOf};
 ghost use Rattle.going.specs.Going.{goingOf};
 ghost use Rattle.held.specs.Held.{stateOf, heldOf};
 ghost use Rattle.held.specs.Fields.{recordOf, fieldsOf};
-ghost use Rattle.held.specs.Answers.{left, inPlace, stampOr, lookAnswer, freeOr, goingAnswer};
+ghost use Rattle.held.specs.Answers.{left, inPlace, stampOr, lookAnswer, freeOr, goingAnswer, distanceOr};
 
 // Starts a state under a key of 32 bytes; for any other key number 8, and a closed state of zeros.
 #[no_mangle]
@@ -176,12 +176,16 @@ pub extern "C" fn pintlecup_unpack(bytes: &[u8], filter: &mut Fields) -> u8
     unpacked.number
 }
 
-// Of a filter record held and one offered: 0 forward, 1 back, 2 another member's.
+// Of a filter record held and one offered: 0 forward, 1 back, 2 another member's, 16 no order. The lent distance is written with 0 and 1 alone.
 #[no_mangle]
-pub extern "C" fn pintlecup_compare(held: &Fields, offered: &Fields) -> u8
-    ensures { λ r. ⌜ r ≡ goingAnswer (goingOf (recordOf (now (held .entry))) (recordOf (now (offered .entry)))) ⌝ }
+pub extern "C" fn pintlecup_compare(held: &Fields, offered: &Fields, distance: &mut i32) -> u8
+    ensures { λ r. ⌜ (r ≡ goingAnswer (goingOf (recordOf (now (held .entry))) (recordOf (now (offered .entry)))))
+        × (now (distance .exit) ≡ distanceOr (now (distance .entry)) (goingOf (recordOf (now (held .entry))) (recordOf (now (offered .entry))))) ⌝ }
 {
     let h = *held;
     let o = *offered;
-    held::compare(h, o)
+    let d = *distance;
+    let compared = held::compare(h, o, d);
+    *distance = compared.distance;
+    compared.answer
 }

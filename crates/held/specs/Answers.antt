@@ -2,6 +2,7 @@
 -- Assumes nothing.
 use mathlib.Core.List.{List}
 use Prim.Native.Nat.{ℕ}
+use lib.IntN.{ℤ}
 use Rattle.refusal.specs.Refusal.{first, done}
 use Rattle.state.specs.Sizes.{storeSize}
 use Rattle.state.specs.TakePut.{Seen}
@@ -11,7 +12,7 @@ use Rattle.state.specs.declared.Verdict.the-variants.{Accept, Stamp, Tag, Nothi
 use Rattle.state.specs.declared.Free.{Free}
 use Rattle.state.specs.declared.Free.the-variants.{At, Full}
 use Rattle.going.specs.declared.Going.{Going}
-use Rattle.going.specs.declared.Going.the-variants.{OtherMember, Back, Forward}
+use Rattle.going.specs.declared.Going.the-variants.{OtherMember, NoOrder, Back, Forward}
 use Rattle.held.specs.Held.{heldOf}
 use Rattle.held.specs.declared.Held.{Held}
 
@@ -53,8 +54,16 @@ abbrev pub freeOr : ℕ → Free → ℕ
 freeOr n (At a) = a
 freeOr n Full = n
 
--- Going back
+-- Going back: 0 forward, 1 back, 2 another member's, 16 no order
 abbrev pub goingAnswer : Going → ℕ
-goingAnswer Forward = 0
-goingAnswer Back = 1
+goingAnswer (Forward d) = 0
+goingAnswer (Back d) = 1
 goingAnswer OtherMember = 2
+goingAnswer NoOrder = 16
+
+-- what the lent number is after it: the distance, and where there is none what it was
+abbrev pub distanceOr : ℤ → Going → ℤ
+distanceOr n (Forward d) = d
+distanceOr n (Back d) = d
+distanceOr n OtherMember = n
+distanceOr n NoOrder = n

@@ -2,3 +2,4 @@ pub mod Held
 pub mod Fields
 pub mod Answers
 pub mod Same
+pub mod Answered

@@ -19,7 +19,7 @@ ghost use Rattle.filter.specs.Filter.{familyNumber, actionNumber, familyOf, act
 ghost use Rattle.going.specs.Going.{goingOf};
 ghost use Rattle.held.specs.Held.{stateOf, heldOf};
 ghost use Rattle.held.specs.Fields.{recordOf, fieldsOf};
-ghost use Rattle.held.specs.Answers.{answer, left, inPlace, stampOr, freeOr, goingAnswer};
+ghost use Rattle.held.specs.Answers.{answer, left, inPlace, stampOr, freeOr, goingAnswer, distanceOr};
 
 // A multiset hash, as its caller holds it.
 #[repr(C)]
@@ -189,10 +189,21 @@ pub fn unpack(bytes: &[u8]) -> Read
     }
 }
 
-pub fn compare(held: Fields, offered: Fields) -> u8
-    ensures { λ r. ⌜ r ≡ goingAnswer (goingOf (recordOf held) (recordOf offered)) ⌝ }
+// What a comparison gives: its answer, and what the lent distance is after it.
+pub struct Weighed {
+    pub answer: u8,
+    pub distance: i32,
+}
+
+pub fn compare(held: Fields, offered: Fields, distance: i32) -> Weighed
+    ensures { λ r. ⌜ (r .answer ≡ goingAnswer (goingOf (recordOf held) (recordOf offered)))
+        × (r .distance ≡ distanceOr distance (goingOf (recordOf held) (recordOf offered))) ⌝ }
 {
-    going_answer(going::compare(record_of(held), record_of(offered)))
+    let going = going::compare(record_of(held), record_of(offered));
+    Weighed {
+        answer: going_answer(going),
+        distance: distance_or(distance, going),
+    }
 }
 
 // How a state is left: as it was where the call is refused.
@@ -305,9 +316,21 @@ fn going_answer(g: Going) -> u8
     ensures { λ r. ⌜ r ≡ goingAnswer g ⌝ }
 {
     match g {
-        Going::Forward => 0,
-        Going::Back => 1,
+        Going::Forward(d) => 0,
+        Going::Back(d) => 1,
         Going::OtherMember => 2,
+        Going::NoOrder => 16,
+    }
+}
+
+fn distance_or(distance: i32, g: Going) -> i32
+    ensures { λ r. ⌜ r ≡ distanceOr distance g ⌝ }
+{
+    match g {
+        Going::Forward(d) => d,
+        Going::Back(d) => d,
+        Going::OtherMember => distance,
+        Going::NoOrder => distance,
     }
 }
 

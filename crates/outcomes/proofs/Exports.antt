@@ -2,6 +2,7 @@
 use mathlib.Core.Path.{_≡_, refl, sym, ap₂, _∙_}
 use mathlib.Core.List.{[]}
 use Prim.Native.Nat.{ℕ}
+use lib.IntN.{ℤ}
 use denote.Ref.{now}
 use Rattle.refusal.specs.Refusal.{filled}
 use Rattle.state.specs.Sizes.{width}
@@ -14,13 +15,14 @@ use Rattle.filter.specs.Filter.{packOf, unpackOf}
 use Rattle.going.specs.Going.{goingOf}
 use Rattle.held.specs.Held.{stateOf, heldOf}
 use Rattle.held.specs.Fields.{recordOf, fieldsOf}
-use Rattle.held.specs.Answers.{Left, left, inPlace, stampOr, freeOr, goingAnswer}
+use Rattle.held.specs.Answers.{Left, left, inPlace, stampOr, freeOr, goingAnswer, distanceOr}
 use Rattle.held.specs.declared.Held.{Held}
 use Rattle.held.specs.declared.Kept.{Kept}
 use Rattle.held.specs.declared.Judged.{Judged}
 use Rattle.held.specs.declared.Lowest.{Lowest}
 use Rattle.held.specs.declared.Fields.{Fields}
 use Rattle.held.specs.declared.Read.{Read}
+use Rattle.held.specs.declared.Weighed.{Weighed}
 use Rattle.outcomes.specs.Exports.{Exported}
 use Rattle.outcomes.proofs.Outcomes.{again, plain, number}
 
@@ -47,6 +49,9 @@ lowest n a = record { number = n; address = a }
 abbrev read : ℕ → Fields → Read
 read n f = record { number = n; fields = f }
 
+abbrev weighed : ℕ → ℤ → Weighed
+weighed n d = record { answer = n; distance = d }
+
 abbrev first : {A : Type 0} → ℕ → A → ℕ
 first n a = n
 
@@ -62,7 +67,7 @@ exported = record {
   held-lowest-free = record { any = λ κs a. tt; one = λ κs a r r′ l l′. both lowest (λ n a. (tt, (tt, tt))) };
   held-pack = record { any = λ κs a. tt; one = λ κs a r r′ l l′. again number (λ y. (tt, (y .out, tt))) };
   held-unpack = record { any = λ κs a. tt; one = λ κs a r r′ l l′. both read (λ n f. (tt, tt)) };
-  held-compare = record { any = λ κs a. tt; one = λ κs a r r′ l l′. plain };
+  held-compare = record { any = λ κs a. tt; one = λ κs a r r′ l l′. both weighed (λ n d. (tt, (tt, (tt, tt)))) };
   start = record {
     Learnt = λ κs a r e. (r ≡ startOf (now (a .1 .0)) .number) × (now (e .0) ≡ heldOf (startOf (now (a .1 .0)) .state));
     asks = λ M 𝓤 H A m f κs a g. refl;
@@ -128,9 +133,10 @@ exported = record {
     one = λ κs a r r′ l l′. both first (λ n f. (tt, (f, tt)));
   };
   compare = record {
-    Learnt = λ κs a r e. r ≡ goingAnswer (goingOf (recordOf (now (a .0))) (recordOf (now (a .1 .0))));
+    Learnt = λ κs a r e. (r ≡ goingAnswer (goingOf (recordOf (now (a .0))) (recordOf (now (a .1 .0)))))
+        × (now (e .1 .1 .0) ≡ distanceOr (now (a .1 .1 .0)) (goingOf (recordOf (now (a .0))) (recordOf (now (a .1 .0)))));
     asks = λ M 𝓤 H A m f κs a g. refl;
     tells = λ M 𝓤 H A m f κs a g r e. refl;
-    one = λ κs a r r′ l l′. plain;
+    one = λ κs a r r′ l l′. both first (λ n d. (tt, (tt, (d, tt))));
   };
 }

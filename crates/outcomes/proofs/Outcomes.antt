@@ -48,6 +48,7 @@ outcomes = record {
   pack = record { any = λ κs a. tt; one = λ κs a r r′ l l′. again number (λ y. (tt, (y .out, tt))) };
   unpack = record { any = λ κs a. tt; one = λ κs a r r′ l l′. plain };
   compare = record { any = λ κs a. tt; one = λ κs a r r′ l l′. plain };
+  distance = record { any = λ κs a. tt; one = λ κs a r r′ l l′. plain };
   copy = record { any = λ κs a. tt; one = λ κs a r r′ l l′. again (λ y. tt) (λ y. (y, (tt, tt))) };
   round-constants = record { any = λ κs a. tt; one = λ κs a r r′ l l′. plain };
   initial-hash = record { any = λ κs a. tt; one = λ κs a r r′ l l′. plain };

@@ -19,6 +19,7 @@ use Rattle.hmac.proofs.mac as Mac
 use Rattle.filter.proofs.pack as Pack
 use Rattle.filter.proofs.unpack as Unpack
 use Rattle.going.proofs.compare as Compare
+use Rattle.serials.proofs.distance as Distance
 use Rattle.lent.proofs.copy as Copy
 use Rattle.constants.proofs.round_constants as RoundConstants
 use Rattle.constants.proofs.initial_hash as InitialHash
@@ -92,6 +93,7 @@ pub record Outcomes : Type 1 where
   pub unpack : Tight Unpack.ended Unpack.Reads.Asked Unpack.Reads.Learnt
   pub compare : Tight Compare.ended Compare.Reads.Asked Compare.Reads.Learnt
   -- the functions below them
+  pub distance : Tight Distance.ended Distance.Reads.Asked Distance.Reads.Learnt
   pub copy : Tight Copy.ended Copy.Reads.Asked Copy.Reads.Learnt
   pub round-constants : Tight RoundConstants.ended RoundConstants.Reads.Asked RoundConstants.Reads.Learnt
   pub initial-hash : Tight InitialHash.ended InitialHash.Reads.Asked InitialHash.Reads.Learnt

@@ -36,6 +36,7 @@ use Rattle.hmac.proofs.Answers.{hmac-length}
 use Rattle.promises.specs.Library.{library}
 use Rattle.promises.specs.Examples.{Sized, Example1, Example2, Example3, Example4, Example5, Example12, Example13, Example14, ExampleMarked, ExampleFound, marking, Examples}
 use Rattle.promises.proofs.Filters.{example-6, example-7, example-8, example-9, example-10, example-11, example-unequal, example-host}
+use Rattle.promises.proofs.Serials.{example-round, example-half, example-equal, example-other}
 
 example-3 : Example3 tag
 unfolding message bytes split total sealed tagOf
@@ -141,4 +142,8 @@ examples = record {
   host = example-host;
   fault-marked = example-marked;
   fault-found = example-found;
+  round = example-round;
+  half = example-half;
+  equal = example-equal;
+  other-member = example-other;
 }

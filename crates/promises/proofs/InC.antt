@@ -7,6 +7,7 @@ use Rattle.state.proofs.Table.{look-first, look-other}
 use Rattle.held.specs.Held.{stateOf}
 use Rattle.held.specs.Answers.{lookAnswer}
 use Rattle.held.proofs.Same.{same}
+use Rattle.held.proofs.Answered.{answered}
 use Rattle.entries.specs.Tag.{tag}
 use Rattle.promises.specs.Library.{library}
 use Rattle.promises.specs.InC.{InC}
@@ -30,4 +31,5 @@ in-c = record {
   unpack = λ M 𝓤 H A m f κs a g r e. refl;
   compare = λ M 𝓤 H A m f κs a g r e. refl;
   same = same;
+  answered = answered;
 }

@@ -1,6 +1,7 @@
 pub mod Tied
 pub mod InC
 pub mod Filters
+pub mod Serials
 pub mod Examples
 pub mod FirstDemand
 pub mod SecondDemand

@@ -17,7 +17,8 @@ use Rattle.state.proofs.Joins.{hash-joined}
 use Rattle.state.proofs.Effects.{effects}
 use Rattle.entries.specs.Tag.{tagOf, tag}
 use Rattle.filter.proofs.Trips.{one-to-one}
-use Rattle.going.proofs.Compares.{compared}
+use Rattle.serials.proofs.Distances.{rfc1982}
+use Rattle.going.proofs.Compares.{compares}
 use Rattle.run.proofs.Exact.{one-period, state-exact, check-exact, reason-exact}
 use Rattle.run.proofs.First.{first-address, stamp-below}
 use Rattle.run.proofs.Counted.{puts-counted, numbers-agree}
@@ -55,5 +56,6 @@ second-demand = record {
   numbers-agree = numbers-agree 2 tag;
   filters = one-to-one;
   zeros-lawful = zeros-lawful;
-  comparison = compared;
+  serials = rfc1982;
+  comparison = compares;
 }

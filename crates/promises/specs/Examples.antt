@@ -1,4 +1,4 @@
--- 01, "The examples that are proved": all fourteen under one claim. Each speaks of what the library's calls give, and holds for all that it leaves open.
+-- 01, "The examples that are proved": all fourteen under one claim, with more of filter records, checks and key serials. Each speaks of what the library's calls give, and holds for all that it leaves open.
 -- Assumes nothing.
 use mathlib.Core.Path.{_≡_}
 use mathlib.Core.Bool.{true, false}
@@ -18,6 +18,7 @@ use Rattle.state.specs.declared.Verdict.the-variants.{Stamp}
 use Rattle.hmac.specs.Hmac.{hmac}
 use Rattle.promises.specs.Library.{Library}
 use Rattle.promises.specs.Filters.{Example6, Example7, Example8, Example9, Example10, Example11, ExampleUnequal, ExampleHost}
+use Rattle.promises.specs.Serials.{ExampleRound, ExampleHalf, ExampleEqual, ExampleOther}
 
 -- a word of marks, all set
 abbrev pub full : ℕ
@@ -84,7 +85,7 @@ module _ (tag : Seal → Entry → List ℕ) where
   abbrev pub Example14 : Type 0
   Example14 = (seal : Seal) (x y : Entry) → hash (tag seal) (x ∷ x ∷ []) ≡ hash (tag seal) (y ∷ y ∷ [])
 
--- all fourteen, two more of filter records, and two of what a check names
+-- all fourteen, two more of filter records, two of what a check names, and those of key serials
 pub record Examples (tag : Seal → Entry → List ℕ) (l : Library) : Type 0 where
   -- 1. cell 0
   pub cell-0 : Example1 l
@@ -120,3 +121,8 @@ pub record Examples (tag : Seal → Entry → List ℕ) (l : Library) : Type 0 w
   -- a stamp ahead of the clock that a call found, and one that the check itself finds
   pub fault-marked : ExampleMarked l
   pub fault-found : ExampleFound l
+  -- key serials that go round, that are 2^31 apart or one off it, that are equal; and another member's
+  pub round : ExampleRound (l .compare)
+  pub half : ExampleHalf (l .compare)
+  pub equal : ExampleEqual (l .compare)
+  pub other-member : ExampleOther (l .compare)

@@ -21,8 +21,10 @@ use Rattle.refusal.specs.Refusal.{filled}
 use Rattle.state.specs.Access.{freeNumber}
 use Rattle.held.specs.Held.{stateOf, heldOf}
 use Rattle.held.specs.Fields.{recordOf, fieldsOf}
-use Rattle.held.specs.Answers.{left, inPlace, stampOr, freeOr, goingAnswer}
+use Rattle.held.specs.Answers.{left, inPlace, stampOr, freeOr, goingAnswer, distanceOr}
+use Rattle.going.specs.declared.Going.{Going}
 use Rattle.held.specs.Same.{Same}
+use Rattle.held.specs.Answered.{Answered}
 use Rattle.outcomes.specs.Exports.{InModels}
 use Rattle.exports.proofs.pintlecup_start as Start
 use Rattle.exports.proofs.pintlecup_add as Add
@@ -72,6 +74,10 @@ pub record InC (l : Library) : Type 2 where
   pub pack : TellsLent Pack.ended (λ M. Pack.clauses {M = M}) (λ κs a r e. filled r (now (e .1 .0)) ≡ l .pack (recordOf (now (a .0))) (now (a .1 .0)))
   pub unpack : TellsLent Unpack.ended (λ M. Unpack.clauses {M = M})
       (λ κs a r e. (r ≡ l .unpack (now (a .0)) .number) × (now (e .1 .0) ≡ fieldsOf (l .unpack (now (a .0)) .filter)))
-  pub compare : TellsLent Compare.ended (λ M. Compare.clauses {M = M}) (λ κs a r e. r ≡ goingAnswer (l .compare (recordOf (now (a .0))) (recordOf (now (a .1 .0)))))
+  pub compare : TellsLent Compare.ended (λ M. Compare.clauses {M = M})
+      (λ κs a r e. (r ≡ goingAnswer (l .compare (recordOf (now (a .0))) (recordOf (now (a .1 .0)))))
+      × (now (e .1 .1 .0) ≡ distanceOr (now (a .1 .1 .0)) (l .compare (recordOf (now (a .0))) (recordOf (now (a .1 .0))))))
   -- what is held in place stands for the state that the call gives, and a check's answer and the address that it writes tell its verdict
   pub same : Same (l .store)
+  -- and a comparison's answer and the distance that it writes tell what it gives
+  pub answered : (g : Going) → Answered g

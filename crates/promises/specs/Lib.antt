@@ -2,6 +2,7 @@ pub mod Library
 pub mod Tied
 pub mod InC
 pub mod Filters
+pub mod Serials
 pub mod Examples
 pub mod FirstDemand
 pub mod SecondDemand

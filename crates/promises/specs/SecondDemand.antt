@@ -5,6 +5,9 @@
 -- A later request, in our words: a check that rejects names the first take of its period whose stamp ran ahead of the clock, and the tags where none did. From a
 -- start the numbers of elements never differ at a check.
 --
+-- Another: key serials go round, in RFC 1982's order with 32 bits. A comparison of two filter records says first whether the member is another; then 16 where the
+-- serials are exactly 2^31 apart, which have no order; and else the distance from the one held to the one offered, which is "back" where it is negative.
+--
 -- `sha256`, `hmac` and the layout of a filter record are definitions, in the standards' and the rules' order; here they are what the library's calls give.
 -- Assumes nothing.
 use mathlib.Core.Path.{_≡_}
@@ -23,7 +26,8 @@ use Rattle.state.specs.Counts.{times}
 use Rattle.state.specs.Effects.{Effects}
 use Rattle.state.specs.declared.Seal.{Seal}
 use Rattle.filter.specs.Promises.{OneToOne}
-use Rattle.going.specs.Going.{Compared}
+use Rattle.serials.specs.Claims.{Rfc1982}
+use Rattle.going.specs.Going.{Compares}
 use Rattle.run.specs.Exact.{OnePeriod, StateExact, CheckExact, ReasonExact, FirstAddress, StampBelow}
 use Rattle.run.specs.Counted.{PutsCounted, NumbersAgree}
 use Rattle.promises.specs.Library.{Library}
@@ -59,7 +63,9 @@ pub record SecondDemand (tag : Seal → Entry → List ℕ) (l : Library) : Type
   -- the entries put in it are as many as those taken and the addresses in use together; so the element numbers never differ at a check
   pub puts-counted : PutsCounted 2 tag
   pub numbers-agree : NumbersAgree 2 tag
-  -- filter records; length 0 and serial 0 are lawful; the comparison is exact
+  -- filter records; length 0 and serial 0 are lawful
   pub filters : OneToOne (l .pack) (l .unpack)
   pub zeros-lawful : ZerosLawful (l .pack)
-  pub comparison : Compared (l .compare)
+  -- key serials: what the distance is, by RFC 1982's order, and that the comparison gives it
+  pub serials : Rfc1982
+  pub comparison : Compares (l .compare)

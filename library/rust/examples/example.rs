@@ -1,5 +1,6 @@
-//! A value added, loaded and checked; a mirror that goes back to an older cell; and one that makes up a stamp. docs/CALLING.md, "An example".
-use pintlecup::{Action, Family, Filter, Refusal, State, Verdict, CELL, KEY, STORE, VALUE};
+//! A value added, loaded and checked; a mirror that goes back to an older cell; one that makes up a stamp; and serials that go round. docs/CALLING.md,
+//! "An example".
+use pintlecup::{Action, Family, Filter, Going, Refusal, State, Verdict, CELL, KEY, STORE, VALUE};
 
 fn number<T>(answer: Result<T, Refusal>) -> u8 {
     answer.map_or_else(Refusal::number, |_| 0)
@@ -11,6 +12,15 @@ fn said(answer: Result<Verdict, Refusal>) -> String {
         Ok(Verdict::Stamp(address)) => format!("reject stamp {address}"),
         Ok(Verdict::Tag) => "reject tag".to_string(),
         Err(_) => "nothing".to_string(),
+    }
+}
+
+fn compared(going: Going) -> String {
+    match going {
+        Going::Forward(distance) => format!("forward {distance}"),
+        Going::Back(distance) => format!("back {distance}"),
+        Going::OtherMember => "other member".to_string(),
+        Going::NoOrder => "no order".to_string(),
     }
 }
 
@@ -53,8 +63,7 @@ fn main() -> Result<(), Refusal> {
     let mut lent = state.lend(&mut mirror);
     let out = lent.load(address)?;
     println!("load 0");
-    let back = newer.compare(&Filter::unpack(&out)?) == pintlecup::Going::Back;
-    println!("unpack 0, {}", if back { "back" } else { "forward" });
+    println!("unpack 0, {}", compared(newer.compare(&Filter::unpack(&out)?)));
     println!("check {}", said(lent.check()));
     println!("load {}", number(lent.load(address)));
 
@@ -66,5 +75,12 @@ fn main() -> Result<(), Refusal> {
     let mut lent = state.lend(&mut mirror);
     println!("load {}", number(lent.load(5)));
     println!("check {}", said(lent.check()));
+
+    // a member's serials that have gone past the last one, one half way round, and another member
+    let (last, next) = (Filter { serial: u32::MAX, ..filter }, Filter { serial: 0, ..filter });
+    println!("{}", compared(last.compare(&next)));
+    println!("{}", compared(next.compare(&last)));
+    println!("{}", compared(last.compare(&Filter { serial: 2147483647, ..filter })));
+    println!("{}", compared(last.compare(&Filter { member: 64497, ..filter })));
     Ok(())
 }

@@ -1,5 +1,6 @@
-//! What the crate refuses, each by its number. (Two numbers are not met here: a value has 28 bytes by its type, and the clock takes 65,535 puts.)
-use pintlecup::{digest, hmac, Action, Family, Filter, Refusal, State, Verdict, ADDRESSES, STORE, VALUE};
+//! What the crate refuses, each by its number. (Two numbers are not met here: a value has 28 bytes by its type, and the clock takes 65,535 puts. And 16 is
+//! no `Refusal`: a comparison says `NoOrder`.)
+use pintlecup::{digest, hmac, Action, Family, Filter, Going, Refusal, State, Verdict, ADDRESSES, STORE, VALUE};
 
 fn main() {
     let value = [7; VALUE];
@@ -53,6 +54,17 @@ fn main() {
     met.push(Filter { longest: 33, ..lawful }.pack().err());
     met.push(Filter { length: 4, ..lawful }.pack().err());
     met.push(Filter { member: 0, ..lawful }.pack().err());
+
+    // serials at the edges of the order: equal, the farthest each way, and one between these
+    for (serial, going) in [
+        (7, Going::Forward(0)),
+        (7 + i32::MAX as u32, Going::Forward(i32::MAX)),
+        (8 + i32::MAX as u32, Going::NoOrder),
+        (9 + i32::MAX as u32, Going::Back(-i32::MAX)),
+    ] {
+        assert_eq!(lawful.compare(&Filter { serial, ..lawful }), going);
+        assert_eq!(lawful.compare(&Filter { serial, member: 1, ..lawful }), Going::OtherMember);
+    }
 
     let mut numbers: Vec<u8> = met.into_iter().map(|one| one.map_or(0, Refusal::number)).collect();
     numbers.sort();

@@ -57,7 +57,7 @@ extern "C" {
     fn pintlecup_hmac(key: *const u8, key_size: usize, message: *const u8, size: usize, out: *mut u8, out_size: usize) -> u8;
     fn pintlecup_pack(filter: *const Filter, out: *mut u8, out_size: usize) -> u8;
     fn pintlecup_unpack(bytes: *const u8, size: usize, filter: *mut Filter) -> u8;
-    fn pintlecup_compare(held: *const Filter, offered: *const Filter) -> u8;
+    fn pintlecup_compare(held: *const Filter, offered: *const Filter, distance: *mut i32) -> u8;
 }
 
 pub fn start(key: &[u8]) -> (u8, State) {
@@ -122,6 +122,8 @@ pub fn unpack(bytes: &[u8]) -> (u8, Filter) {
     (number, filter)
 }
 
-pub fn compare(held: &Filter, offered: &Filter) -> u8 {
-    unsafe { pintlecup_compare(held, offered) }
+pub fn compare(held: &Filter, offered: &Filter) -> (u8, i32) {
+    let mut distance = 0;
+    let number = unsafe { pintlecup_compare(held, offered, &mut distance) };
+    (number, distance)
 }

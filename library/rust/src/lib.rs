@@ -242,15 +242,17 @@ pub struct Filter {
     pub prefix: [u8; 16],
 }
 
-/// What a comparison says of an offered filter record.
+/// What a comparison says of an offered filter record. Serials go round: after 4,294,967,295 comes 0 (RFC 1982 with 32 bits).
 #[derive(Clone, Copy, PartialEq, Eq, Debug)]
 pub enum Going {
-    /// Its serial is not the smaller.
-    Forward,
-    /// Its serial is the smaller.
-    Back,
-    /// Its AS number is another.
+    /// Its serial is this far ahead of the one held: 0, where they are equal, to 2,147,483,647.
+    Forward(i32),
+    /// Its serial is so far behind the one held: -1 to -2,147,483,647.
+    Back(i32),
+    /// Its AS number is another; the serials are not looked at.
     OtherMember,
+    /// Refused by number 16: the serials are exactly 2^31 apart, and neither is ahead.
+    NoOrder,
 }
 
 impl Filter {
@@ -277,9 +279,10 @@ impl Filter {
     /// Of this one, which is held, and one that is offered.
     pub fn compare(&self, offered: &Filter) -> Going {
         match calls::compare(&self.fields(), &offered.fields()) {
-            0 => Going::Forward,
-            1 => Going::Back,
-            _ => Going::OtherMember,
+            (0, distance) => Going::Forward(distance),
+            (1, distance) => Going::Back(distance),
+            (2, _) => Going::OtherMember,
+            _ => Going::NoOrder,
         }
     }
 

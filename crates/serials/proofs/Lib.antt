@@ -1,0 +1,4 @@
+pub mod Whole
+pub mod Sign
+pub mod Up
+pub mod Distances

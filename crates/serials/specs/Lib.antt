@@ -1,0 +1,3 @@
+pub mod Order
+pub mod Distance
+pub mod Claims
