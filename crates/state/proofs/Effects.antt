@@ -29,7 +29,7 @@ use Rattle.state.specs.declared.State.{State}
 use Rattle.state.specs.declared.Verdict.TheVariants.{Accept}
 use Rattle.state.proofs.Cells.{cell_written, cell_other, value_length}
 use Rattle.state.proofs.InUse.{in_use_only, in_use_all, in_use_rising}
-use Rattle.state.proofs.Walks.{put_below, write_all_below, puts_length}
+use Rattle.state.proofs.Walks.{put_below, write_all_whole, puts_length}
 use Rattle.state.proofs.Joins.{tags_join, Taken, taken_each, put_of_each, put_seal}
 use Rattle.state.proofs.Marked.{unset, marked_used, used_marks, set_mark, clear_mark}
 use Rattle.state.proofs.Guards.{agrees_tells, equal_agrees, opens}
@@ -249,9 +249,9 @@ module _ (w : ℕ) (tag : Seal → Entry → List ℕ) where
       first = (opens w tag s m).first;
       closed = (opens w tag s m).closed ∙ c;
       marks = (opens w tag s m).marks;
-      size = ap length (write_all_below w s m) ∙ puts_length w s.marks m addresses (omega arith) size ∙ sym size;
-      used = λ a h k. ap (λ (x : List ℕ). cell_in w x a) (write_all_below w s m) ∙ cell_put s.marks m size addresses a (omega arith) h (marked_used s a k);
-      unused = λ a h k. ap (λ (x : List ℕ). cell_in w x a) (write_all_below w s m) ∙ cell_kept s.marks m size addresses a (omega arith) (λ l. unset (used s.marks a) (λ u. k (used_marks s a u)));
+      size = ap length (write_all_whole w s m) ∙ puts_length w s.marks m addresses (omega arith) size ∙ sym size;
+      used = λ a h k. ap (λ (x : List ℕ). cell_in w x a) (write_all_whole w s m) ∙ cell_put s.marks m size addresses a (omega arith) h (marked_used s a k);
+      unused = λ a h k. ap (λ (x : List ℕ). cell_in w x a) (write_all_whole w s m) ∙ cell_kept s.marks m size addresses a (omega arith) (λ l. unset (used s.marks a) (λ u. k (used_marks s a u)));
     }
 
     rejected : Rejected s m (rejection w tag s m).seen

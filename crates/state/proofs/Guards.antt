@@ -21,7 +21,7 @@ use Rattle.state.specs.declared.Verdict.{Verdict}
 use Rattle.state.specs.declared.Verdict.TheVariants.{Accept, Stamp, Tag, Nothing}
 use Rattle.octets.proofs.Same.{both}
 use Rattle.state.proofs.Multiset.{same_hash_true, equal_same_hash}
-use Rattle.state.proofs.Walks.{put_each_below, put_each_below}
+use Rattle.state.proofs.Walks.{put_each_below, put_each_whole}
 use Rattle.state.proofs.Marked.{unset}
 
 module _ (tag : Seal → Entry → List ℕ) (s : State) where
@@ -139,7 +139,7 @@ module _ (w : ℕ) (tag : Seal → Entry → List ℕ) (s : State) (m : List ℕ
 
     -- whatever addresses are put
     pub opens_each : Opens (put_each w tag ws (opened s) m)
-    opens_each = subst Opens (sym (put_each_below w tag ws (opened s) m)) (opens_below addresses)
+    opens_each = subst Opens (sym (put_each_whole w tag ws (opened s) m)) (opens_below addresses)
 
   pub opens : Opens (put_all w tag s m)
   unfolding put_all

@@ -38,13 +38,13 @@ unfoldable pub put_below : ℕ → List ℕ → List ℕ → ℕ → List ℕ
 put_below w ws m zero = m
 put_below w ws m (suc n) = cond (used ws n) (write_entry w (put_below w ws m n) (opening w m n)) (put_below w ws m n)
 
-pub write_each_below : (w : ℕ) (ws m : List ℕ) → write_each w ws m ≡ put_below w ws m addresses
+pub write_each_whole : (w : ℕ) (ws m : List ℕ) → write_each w ws m ≡ put_below w ws m addresses
 unfolding write_each reput in_use put_below
-write_each_below w ws m = sym (fold_used (write_entry w) (opening w m) ws (put_below w ws m) (λ n. refl) addresses)
+write_each_whole w ws m = sym (fold_used (write_entry w) (opening w m) ws (put_below w ws m) (λ n. refl) addresses)
 
-pub write_all_below : (w : ℕ) (s : State) (m : List ℕ) → write_all w s m ≡ put_below w s.marks m addresses
+pub write_all_whole : (w : ℕ) (s : State) (m : List ℕ) → write_all w s m ≡ put_below w s.marks m addresses
 unfolding write_all
-write_all_below w s m = write_each_below w s.marks m
+write_all_whole w s m = write_each_whole w s.marks m
 
 puts_step : (b : Bool) (w : ℕ) (x m : List ℕ) (n : ℕ) → n < addresses → length m ≡ store_size w → length x ≡ store_size w
     → length (cond b (write_entry w x (opening w m n)) x) ≡ store_size w
@@ -87,22 +87,22 @@ module _ (w : ℕ) (tag : Seal → Entry → List ℕ) where
   take_below s m n = take_each_below s.marks s m n
 
   module _ (ws : List ℕ) (s : State) (m : List ℕ) where
-    pub take_each_below : take_each w tag ws s m ≡ take_each_below ws s m addresses
+    pub take_each_whole : take_each w tag ws s m ≡ take_each_below ws s m addresses
     unfolding take_each taken in_use take_each_below
-    take_each_below = sym (fold_used (take_entry tag) (entry_at w m) ws (take_each_below ws s m) (λ n. refl) addresses)
+    take_each_whole = sym (fold_used (take_entry tag) (entry_at w m) ws (take_each_below ws s m) (λ n. refl) addresses)
 
-    pub put_each_below : put_each w tag ws s m ≡ put_each_below ws s m addresses
+    pub put_each_whole : put_each w tag ws s m ≡ put_each_below ws s m addresses
     unfolding put_each reput in_use put_each_below
-    put_each_below = sym (fold_used (put_entry tag) (opening w m) ws (put_each_below ws s m) (λ n. refl) addresses)
+    put_each_whole = sym (fold_used (put_entry tag) (opening w m) ws (put_each_below ws s m) (λ n. refl) addresses)
 
-  pub take_all_below : (s : State) (m : List ℕ) → take_all w tag s m ≡ take_below s m addresses
+  pub take_all_whole : (s : State) (m : List ℕ) → take_all w tag s m ≡ take_below s m addresses
   unfolding take_all take_below
-  take_all_below s m = take_each_below s.marks s m
+  take_all_whole s m = take_each_whole s.marks s m
 
   -- what a take at an address keeps, all of a check's keep
   pub by_takes : (P : State → Type 0) (m : List ℕ) → ((s : State) (a : ℕ) → a < addresses → P s → P (take_entry tag s (entry_at w m a))) → (s : State) → P s → P (take_all w tag s m)
   unfolding take_below take_each_below
-  by_takes P m keeps s h = subst P (sym (take_all_below s m)) (below addresses (omega arith))
+  by_takes P m keeps s h = subst P (sym (take_all_whole s m)) (below addresses (omega arith))
     where
       below : (n : ℕ) → n ≤ addresses → P (take_each_below s.marks s m n)
       below zero l = h

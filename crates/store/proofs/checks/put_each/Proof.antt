@@ -7,7 +7,7 @@ use native.Mathlib.Omega.{arith}
 use lib.ListN.{length}
 use Rattle.state.specs.Sizes.{addresses, store_size, width}
 use Rattle.state.specs.Marks.{used}
-use Rattle.state.proofs.Walks.{put_each_below, put_below, put_each_below, write_each_below}
+use Rattle.state.proofs.Walks.{put_each_below, put_below, put_each_whole, write_each_whole}
 use Rattle.entries.specs.Tag.{tag}
 use Rattle.store.proofs.Loops.{next, put_begin, put_turn, put_length}
 use Rattle.store.proofs.checks.put_each.Statement.{statement}
@@ -56,8 +56,8 @@ returns c =
     let x = c.before.before.before.before.args in
     let m = x.store.now in
     let e : l.a ≡ addresses = omega arith in (
-      l.invariant.3 ∙ ap (put_each_below width tag x.m x.s m) e ∙ sym (put_each_below width tag x.m x.s m),
-      l.invariant.4 ∙ ap (put_below width x.m m) e ∙ sym (write_each_below width x.m m),
+      l.invariant.3 ∙ ap (put_each_below width tag x.m x.s m) e ∙ sym (put_each_whole width tag x.m x.s m),
+      l.invariant.4 ∙ ap (put_below width x.m m) e ∙ sym (write_each_whole width x.m m),
     )
 
 pub put_each_spec : {M : Type 1} → statement M

@@ -6,7 +6,7 @@ use Prim.Native.Nat.{◌+◌, ◌-◌, ◌≤◌, ◌<◌}
 use native.Mathlib.Omega.{arith}
 use Rattle.state.specs.Sizes.{addresses, width}
 use Rattle.state.specs.Marks.{used}
-use Rattle.state.proofs.Walks.{take_each_below, take_each_below}
+use Rattle.state.proofs.Walks.{take_each_below, take_each_whole}
 use Rattle.entries.specs.Tag.{tag}
 use Rattle.store.proofs.Loops.{next, take_begin, take_turn}
 use Rattle.store.proofs.checks.take_each.Statement.{statement}
@@ -46,7 +46,7 @@ returns c =
     let l = c.before.loop in
     let x = c.before.before.before.before.args in
     let e : l.a ≡ addresses = omega arith in
-    l.invariant.2 ∙ ap (take_each_below width tag x.m x.s x.store.now) e ∙ sym (take_each_below width tag x.m x.s x.store.now)
+    l.invariant.2 ∙ ap (take_each_below width tag x.m x.s x.store.now) e ∙ sym (take_each_whole width tag x.m x.s x.store.now)
 
 pub take_each_spec : {M : Type 1} → statement M
 unfolding addresses
