@@ -1,4 +1,6 @@
 // The bench program's answers: what a line prints.
+#![tactic(auto)]
+
 ghost use Rattle.std.specs.Prelude.{◌≡◌, [], ◌∷◌, ◌++◌};
 ghost use Rattle.lines.specs.Grammar.{blank};
 ghost use Rattle.page.specs.Page.{page, write};

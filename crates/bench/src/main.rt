@@ -1,6 +1,8 @@
 // The bench program: runs the session on standard input and prints what it says.
 // All that matters is in `session`: this reads one byte more than a session may have, lends the buffer that holds whatever a session prints, and writes that
 // out. Where a read fails nothing is run, since what came before it may be a part of a session.
+#![tactic(auto)]
+
 mod input;
 
 use libc::{STDERR_FILENO, STDIN_FILENO, STDOUT_FILENO};

@@ -1,5 +1,7 @@
 // Prints the conformance cases of the filter record, one a line: the bytes in hex, the number that unpack gives, and the fields that it
 // gives. docs/CONFORMANCE.md says how a site uses them.
+#![tactic(auto)]
+
 use filter::{Action, Family, FilterRecord};
 
 // No bit: past the last of 28 bytes.

@@ -1,4 +1,6 @@
 // The bench program's commands: what each does to the state and the store, and its answer.
+#![tactic(auto)]
+
 ghost use Rattle.std.specs.Prelude.{◌≡◌, length};
 ghost use Rattle.refusal.specs.Refusal.{filled};
 ghost use Rattle.state.specs.Sizes.{width, store_size};

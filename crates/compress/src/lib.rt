@@ -1,4 +1,6 @@
 // SHA-256's compression function: one block taken into the running hash.
+#![tactic(auto)]
+
 ghost use Rattle.std.specs.Prelude.{◌≡◌};
 ghost use Rattle.compress.specs.Compress.{rounds, increased, compress};
 

@@ -1,4 +1,6 @@
 // The constants of SHA-256.
+#![tactic(auto)]
+
 ghost use Rattle.std.specs.Prelude.{◌≡◌};
 ghost use Rattle.constants.specs.Constants.{K, H0};
 

@@ -1,4 +1,6 @@
 // An element of the multisets as bytes: its cell, written and read in a store, its message, and its tag.
+#![tactic(auto)]
+
 ghost use Rattle.std.specs.Prelude.{◌≡◌, cond, [], ◌+◌, ◌*◌};
 ghost use Rattle.lent.specs.Lent.{lies};
 ghost use Rattle.state.specs.Sizes.{width, cell_size};

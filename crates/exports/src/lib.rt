@@ -1,4 +1,6 @@
 // The library under C names. Each call is lent the caller's own structs and buffers, changes them in place, and answers with a number.
+#![tactic(auto)]
+
 ghost use Rattle.std.specs.Prelude.{◌≡◌, []};
 ghost use Rattle.refusal.specs.Refusal.{filled};
 ghost use Rattle.sha256.specs.Sha256.{digest_of};

@@ -1,4 +1,6 @@
 // The filter record: 28 bytes for each lawful one, and one for each lawful 28 bytes.
+#![tactic(auto)]
+
 ghost use Rattle.std.specs.Prelude.{◌≡◌, not, ◌&&◌, [], ◌∷◌, ◌+◌, ◌-◌, ◌*◌, ◌/◌, ◌%◌, ◌^◌, ◌<◌, length, take, eqb, leb};
 ghost use Rattle.octets.specs.Layout.{join, number};
 ghost use Rattle.refusal.specs.Refusal.{when, first, filled};

@@ -1,4 +1,6 @@
 // Going back: whether an offered filter record has an older key serial than the one held, and how far it is from one to the other.
+#![tactic(auto)]
+
 ghost use Rattle.std.specs.Prelude.{◌≡◌};
 ghost use Rattle.going.specs.Going.{directed, of_measured, going_of};
 

@@ -1,4 +1,6 @@
 // What a caller in another language holds, in plain numbers: the trusted state and a filter record; and each call on them by value, under its own name.
+#![tactic(auto)]
+
 ghost use Rattle.std.specs.Prelude.{◌≡◌, []};
 ghost use Rattle.refusal.specs.Refusal.{done, filled};
 ghost use Rattle.state.specs.Sizes.{width};

@@ -1,4 +1,6 @@
 // HMAC of RFC 2104 with SHA-256. The two hashes after the padded key are functions of their own.
+#![tactic(auto)]
+
 ghost use Rattle.std.specs.Prelude.{◌≡◌, ◌≤◌, length, replicate};
 ghost use Rattle.constants.specs.Constants.{H0};
 ghost use Rattle.octets.specs.Places.{xor};

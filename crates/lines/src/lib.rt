@@ -1,4 +1,6 @@
 // The bench program's lines: where a line or a word ends, and the command that a line is.
+#![tactic(auto)]
+
 ghost use Rattle.std.specs.Prelude.{◌≡◌, [], ◌∷◌, ◌≤◌, length};
 ghost use Rattle.octets.specs.Places.{same};
 ghost use Rattle.lines.specs.Parse.{before, with_address, with_value, with_stamp, command_of, words_in, parsed};

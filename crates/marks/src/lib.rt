@@ -1,4 +1,6 @@
 // The marks of addresses in use: sixteen 64-bit words by value. The mark of address a is bit a % 64, from the least significant, of word a / 64.
+#![tactic(auto)]
+
 ghost use Rattle.std.specs.Prelude.{◌≡◌, ◌*◌, ◌≤◌};
 ghost use Rattle.state.specs.Marks.{used, marked, unmarked, count_of, lowest_free};
 ghost use Rattle.marks.specs.Next.{next_used};

@@ -1,4 +1,6 @@
 // The multiset hash: a hash with one element more, and whether two hashes are equal.
+#![tactic(auto)]
+
 ghost use Rattle.std.specs.Prelude.{◌≡◌};
 ghost use Rattle.octets.specs.Places.{xor, same};
 ghost use Rattle.state.specs.Multiset.{with_tag, same_hash};

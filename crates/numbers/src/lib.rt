@@ -1,4 +1,6 @@
 // The number that each call of the store gives: its rows of the table of numbers, in the call's order. 0: no row holds, and the call is done.
+#![tactic(auto)]
+
 ghost use Rattle.std.specs.Prelude.{◌≡◌};
 ghost use Rattle.refusal.specs.Refusal.{when, first};
 ghost use Rattle.state.specs.Sizes.{width};

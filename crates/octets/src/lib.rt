@@ -1,4 +1,6 @@
 // Numbers laid side by side as bits and as bytes, and lists made place by place: definitions and laws; and numbers of two bytes as code.
+#![tactic(auto)]
+
 ghost use Rattle.std.specs.Prelude.{◌≡◌, [], ◌∷◌};
 ghost use Rattle.octets.specs.Layout.{number, bytes};
 

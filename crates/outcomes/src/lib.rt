@@ -1,1 +1,3 @@
 // No code: one outcome for each public function.
+#![tactic(auto)]
+

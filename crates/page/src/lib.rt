@@ -1,4 +1,6 @@
 // A page: a lent buffer that is written piece by piece. Each call writes from a place on, as much as fits, and gives the place after it.
+#![tactic(auto)]
+
 ghost use Rattle.std.specs.Prelude.{◌≡◌, ◌<◌};
 ghost use Rattle.text.specs.Text.{decimal, glyph, hex};
 ghost use Rattle.page.specs.Page.{page, write};

@@ -1,5 +1,7 @@
 // Prints the conformance cases of the comparison, one a line: the bytes of a filter record held and of one offered, in hex, and what compare says of
 // them. docs/CONFORMANCE.md says how a site uses them.
+#![tactic(auto)]
+
 use filter::{Action, Family, FilterRecord};
 use going::Going;
 use std::num::{wrapping_add_u32, wrapping_sub_u32};

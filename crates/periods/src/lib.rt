@@ -1,4 +1,6 @@
 // How a period of the trusted state ends: whether its hashes agree, and why a check rejects; the state of a new period, and the state closed.
+#![tactic(auto)]
+
 ghost use Rattle.std.specs.Prelude.{◌≡◌};
 ghost use Rattle.state.specs.TakePut.{close};
 ghost use Rattle.state.specs.Check.{opened, agrees, reason};

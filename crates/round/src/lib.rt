@@ -1,4 +1,6 @@
 // SHA-256's round: the words a .. h after one of its 64 rounds.
+#![tactic(auto)]
+
 ghost use Rattle.std.specs.Prelude.{◌≡◌};
 ghost use Rattle.round.specs.Round.{ch, maj, Σ0, Σ1, round};
 

@@ -1,4 +1,6 @@
 // SHA-256's message schedule: sixty-four words, made from a block's sixteen.
+#![tactic(auto)]
+
 ghost use Rattle.std.specs.Prelude.{◌≡◌, ◌++◌, replicate};
 ghost use Rattle.schedule.specs.Words.{◌⊞◌};
 ghost use Rattle.schedule.specs.Schedule.{σ0, σ1, schedule};

@@ -1,4 +1,6 @@
 // RFC 1982 with 32 bits: how far it is from one serial number to another, where 0 comes after 4,294,967,295.
+#![tactic(auto)]
+
 ghost use Rattle.std.specs.Prelude.{◌≡◌};
 ghost use Rattle.serials.specs.Distance.{signed_of, distance_of};
 

@@ -1,5 +1,7 @@
 // The bench program's session: its lines are run one after the other, and their answers printed.
 // A session reads its input and writes to a lent buffer; the trusted state and the store are its own, and begin with zero bytes.
+#![tactic(auto)]
+
 ghost use Rattle.std.specs.Prelude.{◌≡◌};
 ghost use Rattle.lines.specs.Grammar.{lines_in};
 ghost use Rattle.page.specs.Page.{page, write, whole};

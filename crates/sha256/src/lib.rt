@@ -1,4 +1,6 @@
 // SHA-256 of FIPS 180-4: the padding of a message, and its digest. The message is read where it lies.
+#![tactic(auto)]
+
 ghost use Rattle.std.specs.Prelude.{◌≡◌, cond, [], ◌∷◌, ◌++◌, ◌+◌, ◌*◌, ◌/◌, ◌%◌, ◌^◌, ◌<◌, ◌≤◌, leb, length, get_or};
 ghost use Rattle.octets.specs.Layout.{number};
 ghost use Rattle.refusal.specs.Refusal.{filled};

@@ -1,5 +1,7 @@
 // The trusted state: its type, its sizes and its constructor, and the answers of the calls that change it.
 // What each call does is defined in specs/; the calls themselves are in the crate `store`.
+#![tactic(auto)]
+
 ghost use Rattle.std.specs.Prelude.{◌≡◌};
 ghost use Rattle.state.specs.Start.{start_of, fresh};
 

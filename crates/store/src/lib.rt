@@ -1,5 +1,7 @@
 // The store: values in bytes that the caller lends and nobody trusts, beside a trusted state that the caller holds.
 // Each call gives its number, 0 where it is done, and the state; a refused one leaves the state and every lent byte as they were.
+#![tactic(auto)]
+
 mod access;
 mod cells;
 mod checks;

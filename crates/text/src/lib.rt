@@ -1,4 +1,6 @@
 // Words, numbers and bytes as text, in ASCII: the number or the byte that a word writes.
+#![tactic(auto)]
+
 ghost use Rattle.std.specs.Prelude.{◌≡◌};
 ghost use Rattle.text.specs.Read.{decimal_in, hex_in};
 ghost use Rattle.text.specs.Digits.{digit_in};

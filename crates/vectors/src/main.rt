@@ -1,4 +1,6 @@
 // Runs the published vectors of SHA-256 and of HMAC with it by the proved functions, calls these at the bounds of their sizes, and prints tags of entries.
+#![tactic(auto)]
+
 mod bounds;
 mod cases;
 mod chain;
