@@ -8,7 +8,7 @@ ghost use Rattle.answers.specs.Answers.{name_of, said};
 ghost use Rattle.answers.specs.declared.Answer.TheVariants.{Numbered, Loaded, Stamp};
 
 // The name of a command.
-#[derive(Drop)]
+#[derive(Clone, Copy)]
 pub enum Name {
     Add,
     Store,
@@ -20,7 +20,7 @@ pub enum Name {
 
 // What a line prints: a command with its number; the byte of a load that was done; a check's verdict, with the address where it rejects for a stamp; or that
 // the line is bad.
-#[derive(Drop)]
+#[derive(Clone, Copy)]
 pub enum Answer {
     Numbered(Name, u8),
     Loaded(u8),

@@ -12,7 +12,7 @@ use lines::Command;
 use state::{State, Verdict};
 
 // The state after a command, and what is to be printed.
-#[derive(Drop)]
+#[derive(Clone, Copy)]
 pub struct Ran {
     pub state: State,
     pub answer: Answer,

@@ -6,19 +6,19 @@ ghost use Rattle.octets.specs.Layout.{join, number};
 ghost use Rattle.refusal.specs.Refusal.{when, first, filled};
 ghost use Rattle.filter.specs.Filter.{widths, family_number, action_number, family_of, action_of, top_of, set_past, filter_rows, spare_in, filter_in, bytes_of, zero_filter, unpacked, unpack_of, pack_of};
 
-#[derive(Drop)]
+#[derive(Clone, Copy)]
 pub enum Family {
     Ipv4,
     Ipv6,
 }
 
-#[derive(Drop)]
+#[derive(Clone, Copy)]
 pub enum Action {
     Deny,
     Permit,
 }
 
-#[derive(Drop)]
+#[derive(Clone, Copy)]
 pub struct FilterRecord {
     pub family: Family,
     pub action: Action,
@@ -29,7 +29,7 @@ pub struct FilterRecord {
     pub prefix: [u8; 16],
 }
 
-#[derive(Drop)]
+#[derive(Clone, Copy)]
 pub struct Unpacked {
     pub number: u8,
     pub filter: FilterRecord,

@@ -7,7 +7,7 @@ ghost use Rattle.going.specs.Going.{directed, of_measured, going_of};
 use filter::FilterRecord;
 use serials::Measured;
 
-#[derive(Drop)]
+#[derive(Clone, Copy)]
 pub enum Going {
     OtherMember,
     NoOrder,

@@ -21,7 +21,7 @@ use state::{Free, State, Verdict};
 
 // A multiset hash, as its caller holds it.
 #[repr(C)]
-#[derive(Drop)]
+#[derive(Clone, Copy)]
 pub struct Hash {
     pub tag: [u8; State::TAG],
     pub number: u32,
@@ -30,7 +30,7 @@ pub struct Hash {
 // The trusted state, as its caller holds it: 240 bytes without a gap. Each number in it may have any value: a mark is clear where its byte is 0, and else
 // set; the last two bytes have no meaning, and are written as 0.
 #[repr(C)]
-#[derive(Drop)]
+#[derive(Clone, Copy)]
 pub struct Held {
     pub key: [u8; State::KEY],
     pub marks: [u64; State::WORDS],
@@ -45,7 +45,7 @@ pub struct Held {
 
 // A filter record, as its caller holds it: family 0 is IPv4, and else IPv6; action 0 is deny, and else permit.
 #[repr(C)]
-#[derive(Drop)]
+#[derive(Clone, Copy)]
 pub struct Fields {
     pub family: u8,
     pub action: u8,
@@ -57,7 +57,7 @@ pub struct Fields {
 }
 
 // What a call on a state held by value gives: its answer, and the state that is to be left.
-#[derive(Drop)]
+#[derive(Clone, Copy)]
 pub struct Kept {
     pub answer: u8,
     pub state: Held,
@@ -124,7 +124,7 @@ pub fn remove(h: Held, store: &mut [u8], a: usize) -> Kept
 }
 
 // What a check gives: its answer, the state that is to be left, and what the lent address is after it.
-#[derive(Drop)]
+#[derive(Clone, Copy)]
 pub struct Judged {
     pub answer: u8,
     pub state: Held,
@@ -153,7 +153,7 @@ pub fn count(h: Held) -> u32
 }
 
 // What lowest free gives: its number, and what the lent address is after it.
-#[derive(Drop)]
+#[derive(Clone, Copy)]
 pub struct Lowest {
     pub number: u8,
     pub address: usize,
@@ -176,7 +176,7 @@ pub fn pack(f: Fields, out: &mut [u8]) -> u8
 }
 
 // What unpack gives: its number, and the filter record as it is held.
-#[derive(Drop)]
+#[derive(Clone, Copy)]
 pub struct Read {
     pub number: u8,
     pub fields: Fields,
@@ -195,7 +195,7 @@ pub fn unpack(bytes: &[u8]) -> Read
 }
 
 // What a comparison gives: its answer, and what the lent distance is after it.
-#[derive(Drop)]
+#[derive(Clone, Copy)]
 pub struct Weighed {
     pub answer: u8,
     pub distance: i32,

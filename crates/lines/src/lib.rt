@@ -12,7 +12,7 @@ pub const NEWLINE: u8 = 10;
 const BLANK: u8 = 32;
 
 // The command that a line is; every other line is `Bad`.
-#[derive(Drop)]
+#[derive(Clone, Copy)]
 pub enum Command {
     Add(u16, u8),
     Store(u16, u8),

@@ -9,7 +9,7 @@ use std::num::wrapping_sub_u32;
 // Half way round. Two serial numbers so far apart have no order.
 const HALF: u32 = 0x8000_0000;
 
-#[derive(Drop)]
+#[derive(Clone, Copy)]
 pub enum Measured {
     Distance(i32),
     Opposite,

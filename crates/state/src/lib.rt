@@ -6,19 +6,19 @@ ghost use Rattle.std.specs.Prelude.{◌≡◌};
 ghost use Rattle.state.specs.Start.{start_of, fresh};
 
 // The hash of a multiset: the exclusive-or of its tags, and how many elements it has, modulo 2^32.
-#[derive(Drop)]
+#[derive(Clone, Copy)]
 pub struct Hash {
     pub tag: [u8; State::TAG],
     pub number: u32,
 }
 
 // What keys a tag: all of the state that an entry's tag is made of.
-#[derive(Drop)]
+#[derive(Clone, Copy)]
 pub struct Seal {
     pub key: [u8; State::KEY],
 }
 
-#[derive(Drop)]
+#[derive(Clone, Copy)]
 pub struct State {
     pub seal: Seal,
     pub put: Hash,
@@ -32,14 +32,14 @@ pub struct State {
 }
 
 // What start gives.
-#[derive(Drop)]
+#[derive(Clone, Copy)]
 pub struct Started {
     pub number: u8,
     pub state: State,
 }
 
 // What add, load, store and remove give.
-#[derive(Drop)]
+#[derive(Clone, Copy)]
 pub struct Moved {
     pub number: u8,
     pub state: State,
@@ -47,7 +47,7 @@ pub struct Moved {
 
 // What a check says: it accepts; or it rejects, for a stamp that was ahead of the clock, first taken at this address, or else for its tags. A check that is
 // refused says nothing.
-#[derive(Drop)]
+#[derive(Clone, Copy)]
 pub enum Verdict {
     Accept,
     Stamp(u16),
@@ -56,7 +56,7 @@ pub enum Verdict {
 }
 
 // What check gives.
-#[derive(Drop)]
+#[derive(Clone, Copy)]
 pub struct Checked {
     pub number: u8,
     pub verdict: Verdict,
@@ -64,7 +64,7 @@ pub struct Checked {
 }
 
 // What lowest free gives: an address, or that there is none.
-#[derive(Drop)]
+#[derive(Clone, Copy)]
 pub enum Free {
     At(usize),
     Full,

@@ -6,14 +6,14 @@ ghost use Rattle.text.specs.Read.{decimal_in, hex_in};
 ghost use Rattle.text.specs.Digits.{digit_in};
 
 // An address or a stamp that a word is.
-#[derive(Drop)]
+#[derive(Clone, Copy)]
 pub enum Number {
     Of(u16),
     NoNumber,
 }
 
 // A value's byte that a word is.
-#[derive(Drop)]
+#[derive(Clone, Copy)]
 pub enum Byte {
     Is(u8),
     NoByte,
