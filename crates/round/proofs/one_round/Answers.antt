@@ -5,7 +5,7 @@ use Rattle.round.proofs.one_round.Goals as goal
 pub returns : goal.returns
 returns c =
     let a = c.args in
-    round_calls a.t1 a.k a.w _ _ _ _ _ _ _ _ _ _ _
+    round_calls a.s a.k a.w _ _ _ _ _ _ _ _ _ _ _
     c.big1.ensures
     c.wrapping_add_u32-x.ensures.value
     c.ch.ensures
