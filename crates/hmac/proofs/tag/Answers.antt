@@ -1,0 +1,23 @@
+-- `hmac::tag` meets its contract: a key of 32 bytes is not hashed, and a message above the bound gives zeros. Assumes nothing.
+use borrow.Author.Rules.{rules}
+use mathlib.Core.Path.{◌≡◌, refl, sym, ◌∙◌}
+use native.Mathlib.Omega.{arith}
+use lib.ListN.{length}
+use Rattle.hmac.proofs.Answers.{tag_short, tag_long}
+use Rattle.hmac.proofs.Keys.{key_short, hmac_finished}
+use Rattle.hmac.proofs.tag.Goals as goal
+
+pub returns-then-message-le4096 : goal.returns-then-message-le4096
+returns-then-message-le4096 c =
+    let o = c in
+    let i = o in
+    let z = i in
+    let b = z in
+    let a = b.args in
+    let n : length a.key ≡ 32 = search rules in
+    c.tag_from.ensures
+    ∙ hmac_finished a.key a.message.now z.zero_filled-b.result _ _ _ (search rules) (z.zero_filled-b.ensures ∙ key_short a.key (omega arith)) i.inner_hash.ensures o.outer_hash.ensures refl
+    ∙ sym (tag_short a.key a.message.now (omega arith))
+
+pub returns : goal.returns
+returns c = let a = c.args in sym (tag_long a.key a.message.now (omega arith))

@@ -1,0 +1,12 @@
+-- `lines::alone` meets its contract: the name is compared. Assumes nothing.
+use mathlib.Core.Path.{sym, ◌∙◌}
+use Rattle.lines.specs.Parse.{command_of}
+use Rattle.lines.proofs.alone.Goals as goal
+
+pub returns : goal.returns
+unfolding command_of
+returns c = rw (sym c.equal.ensures ∙ c.if-equal.true)
+
+pub returns : goal.returns
+unfolding command_of
+returns c = rw (sym c.equal.ensures ∙ c.if-equal.false)

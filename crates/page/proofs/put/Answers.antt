@@ -1,0 +1,20 @@
+-- `page::put` meets its contract: the part of the buffer from the place on is copied to, unless the buffer is full. Assumes nothing.
+use mathlib.Core.Path.{sym}
+use native.Mathlib.Omega.{arith}
+use Rattle.page.proofs.Pages.{write_full, write_part}
+use Rattle.page.proofs.put.Goals as goal
+
+pub returns-then-at-end : goal.returns-then-at-end
+returns-then-at-end c = sym (write_full _ _ _ (omega arith))
+
+pub returns-then-bytes-end : goal.returns-then-bytes-end
+returns-then-bytes-end c =
+    let d = c in
+    let a = d.args in
+    write_part a.out.now _ _ a.at _ (omega arith) d.copy.ensures (omega arith)
+
+pub returns : goal.returns
+returns c =
+    let d = c in
+    let a = d.args in
+    write_part a.out.now _ _ a.at _ (omega arith) d.copy.ensures (omega arith)
