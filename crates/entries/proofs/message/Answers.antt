@@ -1,7 +1,7 @@
 -- `entries::message` meets its contract: its first bytes are one and the address's, and the cell's bytes follow them. Assumes nothing.
 use borrow.Author.Rules.{rules}
 use mathlib.Core.Path.{◌≡◌, sym, ap, ap₂, ◌∙◌}
-use mathlib.Core.List.{List, ◌∷◌, append-nil}
+use mathlib.Core.List.{List, ◌∷◌, ◌++◌, append-nil}
 use Prim.Native.Nat.{ℕ}
 use lib.ListN.{length, replicate}
 use Rattle.lent.proofs.Copied.{copied_all}
@@ -16,5 +16,5 @@ returns c =
     let x = c in
     let b = x in
     let l : length x.cell.result ≡ cell_size width = search rules in
-    let v = append-nil c.copy.new.0 ∙ c.copy.ensures ∙ copied_all (replicate (cell_size width) 0) x.cell.result (sym l) ∙ x.cell.ensures in
+    let v = append-nil c.copy.new.to ∙ c.copy.ensures ∙ copied_all (replicate (cell_size width) 0) x.cell.result (sym l) ∙ x.cell.ensures in
     ap (λ (l : List ℕ). 1 ∷ l) (two_join b.bytes_2-b.result _ (search rules) ∙ ap₂ ◌++◌ b.bytes_2-b.ensures v)

@@ -3,9 +3,9 @@ use mathlib.Core.Path.{sym, ◌∙◌}
 use Rattle.lines.specs.Parse.{command_of}
 use Rattle.lines.proofs.alone.Goals as goal
 
-pub returns : goal.returns
+pub returns-then-equal : goal.returns-then-equal
 unfolding command_of
-returns c = rw (sym c.equal.ensures ∙ c.if-equal.true)
+returns-then-equal c = rw (sym c.equal.ensures ∙ c.if-equal.true)
 
 pub returns : goal.returns
 unfolding command_of

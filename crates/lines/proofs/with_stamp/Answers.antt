@@ -2,14 +2,14 @@
 use mathlib.Core.Path.{sym, ◌∙◌}
 use Rattle.lines.proofs.with_stamp.Goals as goal
 
-pub returns : goal.returns
-returns c =
+pub returns-then-equal : goal.returns-then-equal
+returns-then-equal c =
     let t = c in
     let v = t in
-    rw (v.address.given.1, v.value.given.1, t.stamp.given.1, sym c.equal.ensures ∙ c.if-equal.true)
+    rw (c.in-Of.is, c.in-Is.is, c.in-Of-stamp.is, sym c.equal.ensures ∙ c.if-equal.true)
 
 pub returns : goal.returns
 returns c =
     let t = c in
     let v = t in
-    rw (v.address.given.1, v.value.given.1, t.stamp.given.1, sym c.equal.ensures ∙ c.if-equal.false)
+    rw (c.in-Of.is, c.in-Is.is, c.in-Of-stamp.is, sym c.equal.ensures ∙ c.if-equal.false)

@@ -2,19 +2,19 @@
 use mathlib.Core.Path.{sym, ◌∙◌}
 use Rattle.lines.proofs.with_value.Goals as goal
 
-pub equal-requires-2 : goal.equal-requires-2
-equal-requires-2 c =
+pub returns-then-equal : goal.returns-then-equal
+returns-then-equal c =
     let v = c in
-    rw (v.address.given.1, v.value.given.1, sym c.equal.ensures ∙ c.if-equal.true)
+    rw (c.in-Of.is, c.in-Is.is, sym c.equal.ensures ∙ c.if-equal.true)
 
 pub returns-then-equal-2 : goal.returns-then-equal-2
 returns-then-equal-2 c =
     let e = c in
     let v = c in
-    rw (v.address.given.1, v.value.given.1, sym e.equal.ensures ∙ e.if-equal.false, sym c.equal-2.ensures ∙ c.if-equal-2.true)
+    rw (c.in-Of.is, c.in-Is.is, sym e.equal.ensures ∙ e.if-equal.false, sym c.equal-2.ensures ∙ c.if-equal-2.true)
 
 pub returns : goal.returns
 returns c =
     let e = c in
     let v = c in
-    rw (v.address.given.1, v.value.given.1, sym e.equal.ensures ∙ e.if-equal.false, sym c.equal-2.ensures ∙ c.if-equal-2.false)
+    rw (c.in-Of.is, c.in-Is.is, sym e.equal.ensures ∙ e.if-equal.false, sym c.equal-2.ensures ∙ c.if-equal-2.false)

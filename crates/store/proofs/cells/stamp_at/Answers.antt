@@ -1,19 +1,14 @@
 -- `store::cells::stamp_at` meets its contract: the store has the cell. Assumes nothing.
-use borrow.Author.Rules.{rules}
 use mathlib.Core.Path.{ap, ◌∙◌}
 use mathlib.Core.Bool.{cond}
 use Rattle.state.specs.Sizes.{width}
 use Rattle.state.specs.Cells.{stamp_at}
 use Rattle.entries.proofs.Cells.{has_cell_true}
-use Rattle.store.proofs.cells.stamp_at.Statement.{statement}
-use Rattle.store.proofs.cells.stamp_at.Tie as tie
+use Rattle.store.proofs.cells.stamp_at.Goals as goal
 
-returns : tie.Need-returns
+pub returns : goal.returns
 returns c =
-    let x = c.before.before in
+    let x = c in
     let m = x.args.store.now in
     let a = x.args.a in
     c.stamp_at.ensures ∙ ap (λ b. cond b (stamp_at width m a) 0) (has_cell_true width m a x.requires.0 x.requires.1)
-
-pub stamp_at_spec : {M : Type 1} → statement M
-stamp_at_spec = tie.close (tie.spec (λ c κs. search rules) returns)

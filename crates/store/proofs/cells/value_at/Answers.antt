@@ -1,5 +1,4 @@
 -- `store::cells::value_at` meets its contract: all of the value's part is copied. Assumes nothing.
-use borrow.Author.Rules.{rules}
 use mathlib.Core.Path.{sym, ap, ◌∙◌}
 use lib.ListN.{replicate}
 use Rattle.lent.specs.Lent.{copied}
@@ -7,17 +6,13 @@ use Rattle.lent.proofs.Copied.{copied_all}
 use Rattle.state.specs.Sizes.{width, value_size}
 use Rattle.state.specs.Cells.{value_at}
 use Rattle.state.proofs.Cells.{value_length}
-use Rattle.store.proofs.cells.value_at.Statement.{statement}
-use Rattle.store.proofs.cells.value_at.Tie as tie
+use Rattle.store.proofs.cells.value_at.Goals as goal
 
-returns : tie.Need-returns
+pub returns : goal.returns
 unfolding value_size
 returns c =
-    let x = c.before.before.before.before.before in
+    let x = c in
     let m = x.args.store.now in
     let a = x.args.a in
-    c.before.copy.ensures ∙ ap (copied (replicate value_size 0)) c.before.before.value_part.ensures.0
+    c.copy.ensures ∙ ap (copied (replicate value_size 0)) c.value_part.ensures.0
     ∙ copied_all (replicate value_size 0) (value_at width m a) (sym (value_length width m a x.requires.1 x.requires.0))
-
-pub value_at_spec : {M : Type 1} → statement M
-value_at_spec = tie.close (tie.spec (λ c. search rules) (λ c κs. search rules) (λ c κs. search rules) returns)

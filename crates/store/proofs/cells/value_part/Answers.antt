@@ -1,5 +1,4 @@
 -- `store::cells::value_part` meets its contract: the store has the cell. Assumes nothing.
-use borrow.Author.Rules.{rules}
 use mathlib.Core.Path.{ap, ◌∙◌}
 use mathlib.Core.Bool.{cond}
 use mathlib.Core.List.{[]}
@@ -8,16 +7,12 @@ use Rattle.lent.specs.Lent.{lies}
 use Rattle.state.specs.Sizes.{width, cell_size}
 use Rattle.state.specs.Cells.{value_at}
 use Rattle.entries.proofs.Cells.{has_cell_true}
-use Rattle.store.proofs.cells.value_part.Statement.{statement}
-use Rattle.store.proofs.cells.value_part.Tie as tie
+use Rattle.store.proofs.cells.value_part.Goals as goal
 
-returns : tie.Need-returns
+pub returns : goal.returns
 returns c =
-    let x = c.before.before in
+    let x = c in
     let m = x.args.store.now in
     let a = x.args.a in
     let e = has_cell_true width m a x.requires.0 x.requires.1 in
     (c.value_part.ensures.0 ∙ ap (λ b. cond b (value_at width m a) []) e, c.value_part.ensures.1 ∙ ap (λ b. lies x.args.store (cond b (cell_size width * a) 0)) e)
-
-pub value_part_spec : {M : Type 1} → statement M
-value_part_spec = tie.close (tie.spec (λ c κs. search rules) returns)

@@ -1,0 +1,27 @@
+-- `answers::say` meets its contract: by the answer. Assumes nothing.
+use Rattle.lines.specs.Grammar.{spaced}
+use Rattle.answers.specs.Answers.{said}
+use Rattle.answers.specs.declared.Answer.TheVariants.{Accepted, Tag, Bad}
+use Rattle.answers.proofs.Says.{same_answer}
+use Rattle.answers.proofs.say.Goals as goal
+
+pub returns-in-Numbered : goal.returns-in-Numbered
+returns-in-Numbered c = let d = c in same_answer _ _ _ _ d.say_number.ensures d.answer.given.1
+
+pub returns-in-Loaded : goal.returns-in-Loaded
+returns-in-Loaded c = let d = c in same_answer _ _ _ _ d.say_byte.ensures d.answer-in-Loaded-1.given.1
+
+pub returns-in-Accepted : goal.returns-in-Accepted
+unfolding said spaced
+returns-in-Accepted c = let d = c in same_answer _ Accepted _ _ d.put.ensures d.enum_told-1.given.1
+
+pub returns-in-Stamp : goal.returns-in-Stamp
+returns-in-Stamp c = let d = c in same_answer _ _ _ _ d.say_stamp.ensures d.answer-in-Stamp-1.given.1
+
+pub returns-in-Tag : goal.returns-in-Tag
+unfolding said spaced
+returns-in-Tag c = let d = c in same_answer _ Tag _ _ d.put-in-Tag.ensures d.enum_told-in-Tag-1.given.1
+
+pub returns-in-Bad : goal.returns-in-Bad
+unfolding said spaced
+returns-in-Bad c = let d = c in same_answer _ Bad _ _ d.put-in-Bad.ensures d.enum_told-in-Bad-1.given.1

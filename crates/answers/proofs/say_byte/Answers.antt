@@ -1,0 +1,12 @@
+-- `answers::say_byte` meets its contract: three writes are one. Assumes nothing.
+use mathlib.Core.Path.{ap, ◌∙◌}
+use Rattle.page.specs.Page.{write}
+use Rattle.page.proofs.Pages.{write_three}
+use Rattle.answers.proofs.Says.{said_byte}
+use Rattle.answers.proofs.say_byte.Goals as goal
+
+pub returns : goal.returns
+returns c =
+    let d = c in
+    let e = d in
+    write_three _ _ _ _ _ _ _ e.put-named.ensures e.put_hex-told.ensures d.put.ensures ∙ ap (write _) (said_byte _)
