@@ -10,6 +10,7 @@ ghost use Rattle.entries.specs.Tag.{tag};
 use state::State;
 
 // Take: the entry that the store holds joins the take hash; a stamp above the clock marks the fault, and the first one its address.
+#[tactic(auto, unfolding(state::specs::Sizes::addresses))]
 pub fn take(s: State, store: &[u8], a: usize) -> State
     requires { (length store.now ≡ store_size width) × (a < addresses) }
     ensures { result ≡ take_entry tag s (entry_at width store.now a) }
@@ -31,6 +32,7 @@ pub fn take(s: State, store: &[u8], a: usize) -> State
 }
 
 // Put of an entry: it is written to its cell and joins the put hash; the clock becomes its stamp.
+#[tactic(auto, unfolding(state::specs::Sizes::addresses))]
 pub fn put_entry(
     s: State,
     store: &mut [u8],
@@ -53,6 +55,7 @@ pub fn put_entry(
 }
 
 // Put: the clock is raised by 1, and is the entry's stamp.
+#[tactic(auto, unfolding(state::specs::Sizes::ceiling))]
 fn put(s: State, store: &mut [u8], a: usize, value: [u8; State::VALUE]) -> State
     requires { (length store.old ≡ store_size width) × (a < addresses) × (s.clock < ceiling width) }
     ensures { (result ≡ put_entry tag s (next s a value))

@@ -7,6 +7,7 @@ ghost use Rattle.entries.specs.Tag.{tag};
 use state::State;
 
 // Every marked address is taken, lowest first.
+#[tactic(auto, unfolding(state::specs::Sizes::addresses))]
 pub fn take_each(s: State, m: [u64; State::WORDS], store: &[u8]) -> State
     requires { length store.now ≡ store_size width }
     ensures { result ≡ take_each width tag m s store.now }
@@ -21,6 +22,7 @@ pub fn take_each(s: State, m: [u64; State::WORDS], store: &[u8]) -> State
 }
 
 // The puts that begin a period: at each marked address its value, with stamp 1.
+#[tactic(auto, unfolding(state::specs::Sizes::addresses))]
 pub fn put_each(s: State, m: [u64; State::WORDS], store: &mut [u8]) -> State
     requires { length store.old ≡ store_size width }
     ensures { (result ≡ put_each width tag m s store.old)

@@ -18,7 +18,7 @@ returns c =
     let x = b in
     let s = x.args.s in
     let a = x.args.a in
-    let v : b.copy.new.0 ≡ x.args.value.now = b.copy.ensures ∙ copied_all (replicate 28 0) x.args.value.now (sym x.requires.2) in
+    let v : b.copy.new.to ≡ x.args.value.now = b.copy.ensures ∙ copied_all (replicate 28 0) x.args.value.now (sym x.requires.2) in
     same_seen (ap₂ with_marks (p.put-r.ensures.0 ∙ ap (λ u. put_entry tag s (next s a u)) v) c.with_mark-n.ensures)
     (p.put-r.ensures.1 ∙ ap (λ u. write_entry width x.args.store.now (next s a u)) v)
     refl

@@ -28,7 +28,7 @@ returns c =
     let a = x.args.a in
     let v = b.value_at-v.ensures in
     let l : length b.value_at-v.result ≡ value_size = search rules in
-    let e : o.copy.new.0 ≡ b.value_at-v.result = o.copy.ensures ∙ copied_all x.args.out.now b.value_at-v.result (x.requires.2 ∙ sym l) in
+    let e : o.copy.new.to ≡ b.value_at-v.result = o.copy.ensures ∙ copied_all x.args.out.now b.value_at-v.result (x.requires.2 ∙ sym l) in
     same_seen (p.put-r.ensures.0 ∙ ap₂ (λ s u. put_entry tag s (next s a u)) t.take-t.ensures v)
     (p.put-r.ensures.1 ∙ ap₂ (λ s u. write_entry width m (next s a u)) t.take-t.ensures v)
     (e ∙ v)

@@ -23,7 +23,7 @@ returns c =
     let b = t in
     let x = b in
     let a = x.args.a in
-    let v : b.copy.new.0 ≡ x.args.value.now = b.copy.ensures ∙ copied_all (replicate 28 0) x.args.value.now (sym x.requires.2) in
+    let v : b.copy.new.to ≡ x.args.value.now = b.copy.ensures ∙ copied_all (replicate 28 0) x.args.value.now (sym x.requires.2) in
     same_seen (p.put.ensures.0 ∙ ap₂ (λ s u. put_entry tag s (next s a u)) t.take-t.ensures v)
     (p.put.ensures.1 ∙ ap₂ (λ s u. write_entry width x.args.store.now (next s a u)) t.take-t.ensures v)
     refl
