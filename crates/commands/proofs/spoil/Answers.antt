@@ -1,24 +1,19 @@
 -- `commands::spoil` meets its contract: the address is tested, and then the store has its cell. Assumes nothing.
-use borrow.Author.Rules.{rules}
 use mathlib.Core.Path.{sym, ap, ◌∙◌}
 use native.Mathlib.Omega.{arith}
 use Rattle.refusal.specs.Refusal.{filled}
 use Rattle.state.specs.Sizes.{width, addresses, value_size}
 use Rattle.entries.proofs.Cells.{has_cell_true}
 use Rattle.commands.proofs.Spoils.{spoil_done, spoil_refused}
-use Rattle.commands.proofs.spoil.Statement.{statement}
-use Rattle.commands.proofs.spoil.Tie as tie
+use Rattle.commands.proofs.spoil.Goals as goal
 
-returns : tie.Need-returns
-returns c = sym (spoil_refused _ _ _ _ c.if1.true)
+pub returns-then-a-ge-ADDRESSES : goal.returns-then-a-ge-ADDRESSES
+returns-then-a-ge-ADDRESSES c = sym (spoil_refused _ _ _ _ c.if-a-ge-ADDRESSES.true)
 
-returns-2 : tie.Need-returns-2
+pub returns : goal.returns
 unfolding addresses value_size
-returns-2 c =
-    let d = c.before.before in
-    let x = d.before.before.before.before in
+returns c =
+    let d = c in
+    let x = d in
     ap (filled 0) (rw (has_cell_true width x.args.store.now x.args.a x.requires (omega arith)) at d.write.ensures)
     ∙ sym (spoil_done x.args.store.now x.args.a x.args.v x.args.t (omega arith))
-
-pub spoil_spec : {M : Type 1} → statement M
-spoil_spec = tie.close (tie.spec returns (λ c κs. search rules) (λ c. search rules) returns-2)

@@ -1,0 +1,9 @@
+-- `held::store` meets its contract: the call's own, in place. Assumes nothing.
+use Rattle.held.proofs.Place.{placed}
+use Rattle.held.proofs.store.Goals as goal
+
+pub returns : goal.returns
+returns c =
+    let b = c in
+    let e = rw b.state_of.ensures at b.store-stored.ensures in
+    placed _ _ _ _ _ _ c.remains.ensures e
