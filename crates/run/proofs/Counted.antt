@@ -13,7 +13,7 @@ use Rattle.state.specs.Cells.{Entry}
 use Rattle.state.specs.Multiset.{hash}
 use Rattle.state.specs.Start.{sealed}
 use Rattle.state.specs.TakePut.{Event}
-use Rattle.state.specs.Check.{takes, take_all}
+use Rattle.state.specs.Check.{take_all}
 use Rattle.state.specs.declared.Hash.{Hash}
 use Rattle.state.specs.declared.Seal.{Seal}
 use Rattle.state.specs.declared.State.{State}

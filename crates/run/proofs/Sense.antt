@@ -9,11 +9,10 @@ use Rattle.state.specs.Marks.{used}
 use Rattle.state.specs.Cells.{Entry, entry_at}
 use Rattle.state.specs.Counts.{times}
 use Rattle.state.specs.TakePut.{Event, Outcome}
-use Rattle.state.specs.Access.{call}
 use Rattle.state.specs.Check.{takes, acceptance}
 use Rattle.state.specs.declared.Seal.{Seal}
 use Rattle.bag.proofs.Lists.{last_place, place_stays}
-use Rattle.run.specs.Calls.{store, check, Made, made}
+use Rattle.run.specs.Calls.{check, Made, made}
 use Rattle.run.specs.Demand3.{Latest, state_after, result, events_of, Done, Touches, Unaltered}
 use Rattle.run.specs.Sense.{HonestNoCollision, UnusedMayChange}
 use Rattle.run.proofs.Periods.{since_puts, since_takes}

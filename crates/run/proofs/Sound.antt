@@ -17,7 +17,7 @@ use Rattle.bag.specs.Claims.{Collides, right}
 use Rattle.bag.proofs.Along.{along_append, along_map}
 use Rattle.bag.proofs.Orderly.{empty_orderly}
 use Rattle.bag.proofs.Sound.{sound_accepted}
-use Rattle.run.specs.Calls.{check, Made, made, events}
+use Rattle.run.specs.Calls.{check, Made, made}
 use Rattle.run.specs.Demand3.{Differ, NoTwoAlike, put_in, taken_in, Since, state_after, events_of, up_to, EachLoad, Collision, LastAccepts}
 use Rattle.run.proofs.FromStart.{events_last, invariant}
 use Rattle.run.proofs.Loads.{loads_right}

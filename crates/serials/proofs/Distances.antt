@@ -5,7 +5,7 @@ use mathlib.Core.Logic.{⊎_swap}
 use mathlib.Core.Option.{Option, some, none, some-injective, none-ne-some}
 use lib.IntN.{+ℤ_idr}
 use borrow.Author.Tests.{eqb-false}
-use Rattle.serials.specs.Order.{Serial, Less, Greater}
+use Rattle.serials.specs.Order.{Less, Greater}
 use Rattle.serials.specs.Distance.{IsDistance, wrapped, signed_of, distance_of}
 use Rattle.serials.specs.Claims.{Rfc1982, Measures, Exact}
 use Rattle.serials.specs.declared.Measured.{Measured}

@@ -17,7 +17,7 @@ use Rattle.state.specs.Sizes.{addresses, value_size, cell_size, store_size}
 use Rattle.state.specs.Marks.{used, in_use}
 use Rattle.state.specs.Cells.{Entry, entry, value_at, stamp_at, entry_at, write_cell, write_entry}
 use Rattle.state.specs.Multiset.{empty_hash, with_tag}
-use Rattle.state.specs.TakePut.{Seen, seen, Outcome, with_marks, close, next, take_entry, put_entry}
+use Rattle.state.specs.TakePut.{Seen, Outcome, with_marks, close, next, take_entry, put_entry}
 use Rattle.state.specs.Access.{add_rows, exchange_rows, remove_rows, call, added, loaded, stored, removed, add_of, load_of, store_of, remove_of}
 use Rattle.state.specs.Check.{check_rows, taken, opening, reput, opened, agrees, reason, take_all, put_all, acceptance, rejection, check_of}
 use Rattle.state.specs.Calls.{calls}

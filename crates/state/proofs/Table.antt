@@ -17,7 +17,7 @@ use Rattle.state.specs.Marks.{used}
 use Rattle.state.specs.Cells.{Entry, value_at}
 use Rattle.state.specs.Multiset.{empty_hash}
 use Rattle.state.specs.Start.{sealed, fresh, no_state, start_rows, start_of}
-use Rattle.state.specs.TakePut.{seen, Outcome}
+use Rattle.state.specs.TakePut.{Outcome}
 use Rattle.state.specs.Access.{address_row, unused_row, add_rows, exchange_rows, remove_rows, look_rows, call, added, loaded, stored, removed, add_of, load_of, store_of, remove_of}
 use Rattle.state.specs.Check.{check_rows, agrees, reason, take_all, acceptance, rejection, check_of}
 use Rattle.state.specs.Calls.{calls}

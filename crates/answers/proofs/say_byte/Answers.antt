@@ -7,6 +7,4 @@ use Rattle.answers.proofs.say_byte.Goals as goal
 
 pub returns : goal.returns
 returns c =
-    let d = c in
-    let e = d in
-    write_three _ _ _ _ _ _ _ e.put-named.ensures e.put_hex-told.ensures d.put.ensures ∙ ap (write _) (said_byte _)
+    write_three _ _ _ _ _ _ _ c.put-named.ensures c.put_hex-told.ensures c.put.ensures ∙ ap (write _) (said_byte _)

@@ -7,6 +7,4 @@ use Rattle.answers.proofs.say_number.Goals as goal
 
 pub returns : goal.returns
 returns c =
-    let d = c in
-    let e = d in
-    write_three _ _ _ _ _ _ _ e.put_name-named.ensures e.put_decimal-told.ensures d.put.ensures ∙ ap (write _) (said_number _ _)
+    write_three _ _ _ _ _ _ _ c.put_name-named.ensures c.put_decimal-told.ensures c.put.ensures ∙ ap (write _) (said_number _ _)

@@ -7,6 +7,4 @@ use Rattle.answers.proofs.say_stamp.Goals as goal
 pub returns : goal.returns
 unfolding said spaced
 returns c =
-    let d = c in
-    let e = d in
-    write_three _ _ _ _ _ _ _ e.put-named.ensures e.put_decimal-told.ensures d.put.ensures
+    write_three _ _ _ _ _ _ _ c.put-named.ensures c.put_decimal-told.ensures c.put.ensures

@@ -13,7 +13,5 @@ returns-then-a-ge-ADDRESSES c = sym (spoil_refused _ _ _ _ c.if-a-ge-ADDRESSES.t
 pub returns : goal.returns
 unfolding addresses value_size
 returns c =
-    let d = c in
-    let x = d in
-    ap (filled 0) (rw (has_cell_true width x.args.store.now x.args.a x.requires (omega arith)) at d.write.ensures)
-    ∙ sym (spoil_done x.args.store.now x.args.a x.args.v x.args.t (omega arith))
+    ap (filled 0) (rw (has_cell_true width c.args.store.now c.args.a c.requires (omega arith)) at c.write.ensures)
+    ∙ sym (spoil_done c.args.store.now c.args.a c.args.v c.args.t (omega arith))

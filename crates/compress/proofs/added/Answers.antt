@@ -12,11 +12,10 @@ loop-i-init c = (search rules, refl)
 
 pub loop-i-preserved : goal.loop-i-preserved
 loop-i-preserved c =
-    let at = c in
-    let a = at.args in
-    let i = at.loop-i.i in
+    let a = c.args in
+    let i = c.loop-i.i in
     let n : length a.h ≡ 8 = search rules in
-    (omega arith, rw (c.wrapping_add_u32.ensures.value, at.loop-i.invariant.1) (fill_step (λ k. get_or a.s k 0 ⊞ get_or a.h k 0) i a.h (omega arith)))
+    (omega arith, rw (c.wrapping_add_u32.ensures.value, c.loop-i.invariant.1) (fill_step (λ k. get_or a.s k 0 ⊞ get_or a.h k 0) i a.h (omega arith)))
 
 pub returns : goal.returns
 unfolding increased

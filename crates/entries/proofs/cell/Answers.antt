@@ -12,19 +12,15 @@ use Rattle.entries.proofs.cell.Goals as goal
 
 pub slice_bounds-copy-end-2 : goal.slice_bounds-copy-end-2
 slice_bounds-copy-end-2 c =
-    let d = c in
-    let b = d in
-    let l : length b.bytes_2.result ≡ width = search rules in
-    let e = ap length (append-nil d.copy.new.to ∙ d.copy.ensures ∙ copied_all (replicate width 0) b.bytes_2.result (sym l)) in
+    let l : length c.bytes_2.result ≡ width = search rules in
+    let e = ap length (append-nil c.copy.new.to ∙ c.copy.ensures ∙ copied_all (replicate width 0) c.bytes_2.result (sym l)) in
     omega arith
 
 pub returns : goal.returns
 unfolding value_size
 returns c =
-    let d = c in
-    let b = d in
-    let a = b.args in
-    let l : length b.bytes_2.result ≡ width = search rules in
+    let a = c.args in
+    let l : length c.bytes_2.result ≡ width = search rules in
     let n : length a.value ≡ value_size = search rules in
     c.copy-2.ensures ∙ value_copied (replicate value_size 0) a.value _ n
-    ∙ ap (λ (k : List ℕ). a.value ++ k) (append-nil d.copy.new.to ∙ d.copy.ensures ∙ copied_all (replicate width 0) b.bytes_2.result (sym l) ∙ b.bytes_2.ensures)
+    ∙ ap (λ (k : List ℕ). a.value ++ k) (append-nil c.copy.new.to ∙ c.copy.ensures ∙ copied_all (replicate width 0) c.bytes_2.result (sym l) ∙ c.bytes_2.ensures)

@@ -13,8 +13,6 @@ use Rattle.entries.proofs.message.Goals as goal
 pub returns : goal.returns
 unfolding message value_size cell_size
 returns c =
-    let x = c in
-    let b = x in
-    let l : length x.cell.result ≡ cell_size width = search rules in
-    let v = append-nil c.copy.new.to ∙ c.copy.ensures ∙ copied_all (replicate (cell_size width) 0) x.cell.result (sym l) ∙ x.cell.ensures in
-    ap (λ (l : List ℕ). 1 ∷ l) (two_join b.bytes_2-b.result _ (search rules) ∙ ap₂ ◌++◌ b.bytes_2-b.ensures v)
+    let l : length c.cell.result ≡ cell_size width = search rules in
+    let v = append-nil c.copy.new.to ∙ c.copy.ensures ∙ copied_all (replicate (cell_size width) 0) c.cell.result (sym l) ∙ c.cell.ensures in
+    ap (λ (l : List ℕ). 1 ∷ l) (two_join c.bytes_2-b.result _ (search rules) ∙ ap₂ ◌++◌ c.bytes_2-b.ensures v)

@@ -20,33 +20,29 @@ overflow_add-at c = let x = c.args in let h = cell_has width x.store.now x.a (sy
 pub bounds-store-at : goal.bounds-store-at
 unfolding addresses value_size cell_size store_size
 bounds-store-at c =
-    let b = c in
-    let x = b.args in
-    let h = cell_has width x.store.now x.a (sym b.has_cell.ensures ∙ b.if-has_cell.true) in
+    let x = c.args in
+    let h = cell_has width x.store.now x.a (sym c.has_cell.ensures ∙ c.if-has_cell.true) in
     search rules
 
 pub overflow_add-at-then-has_cell : goal.overflow_add-at-then-has_cell
 unfolding addresses
 overflow_add-at-then-has_cell c =
-    let b = c in
-    let x = b.args in
-    let h = cell_has width x.store.now x.a (sym b.has_cell.ensures ∙ b.if-has_cell.true) in
+    let x = c.args in
+    let h = cell_has width x.store.now x.a (sym c.has_cell.ensures ∙ c.if-has_cell.true) in
     search rules
 
 pub bounds-store-at-then-has_cell : goal.bounds-store-at-then-has_cell
 unfolding addresses value_size cell_size store_size
 bounds-store-at-then-has_cell c =
-    let b = c in
-    let x = b.args in
-    let h = cell_has width x.store.now x.a (sym b.has_cell.ensures ∙ b.if-has_cell.true) in
+    let x = c.args in
+    let h = cell_has width x.store.now x.a (sym c.has_cell.ensures ∙ c.if-has_cell.true) in
     search rules
 
 pub returns-then-has_cell : goal.returns-then-has_cell
 unfolding addresses value_size cell_size store_size stamp_at
 returns-then-has_cell c =
-    let b = c in
-    let x = b.args in
-    let t = sym b.has_cell.ensures ∙ b.if-has_cell.true in
+    let x = c.args in
+    let t = sym c.has_cell.ensures ∙ c.if-has_cell.true in
     let h = cell_has width x.store.now x.a t in
     rw t (c.number_2.ensures ∙ ap number (sym (two_read x.store.now (cell_size width * x.a + value_size) (omega arith))))
 

@@ -9,5 +9,4 @@ use Rattle.entries.proofs.tag.Goals as goal
 pub returns : goal.returns
 unfolding tag_of
 returns c =
-    let m = c in
-    c.tag.ensures ∙ tag_short _ m.message.result (search rules) ∙ ap (hmac _) m.message.ensures
+    c.tag.ensures ∙ tag_short _ c.message.result (search rules) ∙ ap (hmac _) c.message.ensures

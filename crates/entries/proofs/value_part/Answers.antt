@@ -24,11 +24,10 @@ slice_bounds-result-end c = let x = c.args in let h = cell_has width x.store.now
 pub returns-then-has_cell : goal.returns-then-has_cell
 unfolding value_size cell_size value_at
 returns-then-has_cell c =
-    let b = c in
-    let x = b.args in
+    let x = c.args in
     let n = cell_size width * x.a in
     let size : n + value_size - n ≡ value_size = omega arith in
-    rw (sym b.has_cell.ensures ∙ c.if-has_cell.true) (ap (λ n. take n (drop (cell_size width * x.a) x.store.now)) size, refl)
+    rw (sym c.has_cell.ensures ∙ c.if-has_cell.true) (ap (λ n. take n (drop (cell_size width * x.a) x.store.now)) size, refl)
 
 pub returns : goal.returns
-returns c = let b = c in rw (sym b.has_cell.ensures ∙ c.if-has_cell.false) (refl, refl)
+returns c = rw (sym c.has_cell.ensures ∙ c.if-has_cell.false) (refl, refl)

@@ -27,13 +27,11 @@ slice_bounds-copy-end c = let x = c.args in let h = cell_has width x.store.now x
 pub returns-then-has_cell : goal.returns-then-has_cell
 unfolding addresses value_size cell_size store_size write_cell
 returns-then-has_cell c =
-    let d = c in
-    let b = d in
-    let x = b.args in
-    let t = sym b.has_cell.ensures ∙ b.if-has_cell.true in
+    let x = c.args in
+    let t = sym c.has_cell.ensures ∙ c.if-has_cell.true in
     let h = cell_has width x.store.now x.a t in
     let n = cell_size width * x.a in
-    let filling = d.copy.ensures ∙ copied_all _ _ (simp (length-take, length-drop) (omega arith)) ∙ d.cell.ensures in
+    let filling = c.copy.ensures ∙ copied_all _ _ (simp (length-take, length-drop) (omega arith)) ∙ c.cell.ensures in
     rw t
     (ap₂ (λ (k l : List ℕ). take n x.store.now ++ (k ++ l)) filling (Post-is n (n + cell_size width) x.store.now (omega arith)))
 

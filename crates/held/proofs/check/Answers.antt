@@ -7,7 +7,6 @@ use Rattle.held.proofs.check.Goals as goal
 
 pub returns : goal.returns
 returns c =
-    let b = c in
-    let x = b.args in
-    let e = rw b.state_of.ensures at b.check-checked.ensures in
+    let x = c.args in
+    let e = rw c.state_of.ensures at c.check-checked.ensures in
     (rw c.verdict_answer.ensures (placed _ _ _ _ _ _ c.remains.ensures e), c.stamp_or.ensures ∙ ap (λ (y : Seen). stamp_or x.address y.verdict) e)

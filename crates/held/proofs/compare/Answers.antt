@@ -8,10 +8,8 @@ use Rattle.held.proofs.compare.Goals as goal
 
 pub returns : goal.returns
 returns c =
-    let b = c in
-    let start = b in
     let d = c.distance_or in
-    let e = b.compare-going.ensures ∙ ap₂ going_of b.record_of.ensures b.record_of-2.ensures in (
+    let e = c.compare-going.ensures ∙ ap₂ going_of c.record_of.ensures c.record_of-2.ensures in (
       c.going_answer.ensures ∙ ap going_answer e,
-      to_z-of_z w32 _ (record { sfits = d.type_inv }) ∙ d.ensures ∙ ap₂ distance_or (to_z-of_z w32 start.args.distance start.ranges.distance) e,
+      to_z-of_z w32 _ (record { sfits = d.type_inv }) ∙ d.ensures ∙ ap₂ distance_or (to_z-of_z w32 c.args.distance c.ranges.distance) e,
     )

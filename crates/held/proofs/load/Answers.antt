@@ -4,6 +4,5 @@ use Rattle.held.proofs.load.Goals as goal
 
 pub returns : goal.returns
 returns c =
-    let b = c in
-    let e = rw b.state_of.ensures at b.load-loaded.ensures in
+    let e = rw c.state_of.ensures at c.load-loaded.ensures in
     placed _ _ _ _ _ _ c.remains.ensures e

@@ -4,6 +4,5 @@ use Rattle.held.proofs.store.Goals as goal
 
 pub returns : goal.returns
 returns c =
-    let b = c in
-    let e = rw b.state_of.ensures at b.store-stored.ensures in
+    let e = rw c.state_of.ensures at c.store-stored.ensures in
     placed _ _ _ _ _ _ c.remains.ensures e

@@ -6,6 +6,5 @@ use Rattle.hmac.proofs.hash_from.Goals as goal
 
 pub returns : goal.returns
 returns c =
-    let d = c in
-    let a = d.args in
-    hash_finished a.inner a.outer a.text.now _ _ _ (omega arith) (search rules) d.finish-s.ensures d.hash_bytes-d.ensures c.finish.ensures
+    let a = c.args in
+    hash_finished a.inner a.outer a.text.now _ _ _ (omega arith) (search rules) c.finish-s.ensures c.hash_bytes-d.ensures c.finish.ensures

@@ -7,11 +7,8 @@ use Rattle.hmac.proofs.key_block.Goals as goal
 
 pub returns-then-key-gt64 : goal.returns-then-key-gt64
 returns-then-key-gt64 c =
-    let d = c in
-    let f = d in
-    let i = f in
-    let k = i.args.key.now in
-    c.zero_filled.ensures ∙ key_long k _ (omega arith) (sha256_calls k _ _ _ (omega arith) i.initial_hash.ensures f.finish-h.ensures d.hash_bytes-d.ensures)
+    let k = c.args.key.now in
+    c.zero_filled.ensures ∙ key_long k _ (omega arith) (sha256_calls k _ _ _ (omega arith) c.initial_hash.ensures c.finish-h.ensures c.hash_bytes-d.ensures)
 
 pub returns : goal.returns
 returns c = c.zero_filled-2.ensures ∙ key_short c.args.key.now (omega arith)

@@ -17,14 +17,8 @@ returns-then-out-ne32 c = let a = c.args in mac_not32 a.key.now a.message.now a.
 
 pub returns : goal.returns
 returns c =
-    let p = c in
-    let d = p in
-    let h = d in
-    let o = h in
-    let i = o in
-    let b = i in
-    let a = b.args in
+    let a = c.args in
     let k = a.key.now in
     let m = a.message.now in
-    let e = hmac_finished k m b.key_block-b.result _ _ _ (search rules) b.key_block-b.ensures i.inner_hash.ensures o.outer_hash.ensures h.hash_from-h.ensures in
-    mac_done k m a.out.now _ _ (omega arith) (omega arith) (omega arith) (d.hash_bytes-d.ensures ∙ e) p.copy.ensures
+    let e = hmac_finished k m c.key_block-b.result _ _ _ (search rules) c.key_block-b.ensures c.inner_hash.ensures c.outer_hash.ensures c.hash_from-h.ensures in
+    mac_done k m a.out.now _ _ (omega arith) (omega arith) (omega arith) (c.hash_bytes-d.ensures ∙ e) c.copy.ensures

@@ -9,14 +9,10 @@ use Rattle.hmac.proofs.tag.Goals as goal
 
 pub returns-then-message-le4096 : goal.returns-then-message-le4096
 returns-then-message-le4096 c =
-    let o = c in
-    let i = o in
-    let z = i in
-    let b = z in
-    let a = b.args in
+    let a = c.args in
     let n : length a.key ≡ 32 = search rules in
     c.tag_from.ensures
-    ∙ hmac_finished a.key a.message.now z.zero_filled-b.result _ _ _ (search rules) (z.zero_filled-b.ensures ∙ key_short a.key (omega arith)) i.inner_hash.ensures o.outer_hash.ensures refl
+    ∙ hmac_finished a.key a.message.now c.zero_filled-b.result _ _ _ (search rules) (c.zero_filled-b.ensures ∙ key_short a.key (omega arith)) c.inner_hash.ensures c.outer_hash.ensures refl
     ∙ sym (tag_short a.key a.message.now (omega arith))
 
 pub returns : goal.returns

@@ -7,9 +7,8 @@ use Rattle.lines.proofs.fourth.Goals as goal
 
 pub returns-then-e-rest : goal.returns-then-e-rest
 returns-then-e-rest c =
-    let e = c in
     c.with_stamp.ensures
-    ∙ rw (c.decimal.ensures, c.hex.ensures, c.decimal-then-e-rest.ensures) (sym (last_fourth _ _ _ _ (sym e.if-e-rest.true ∙ e.find-e.ensures.0)))
+    ∙ rw (c.decimal.ensures, c.hex.ensures, c.decimal-then-e-rest.ensures) (sym (last_fourth _ _ _ _ (sym c.if-e-rest.true ∙ c.find-e.ensures.0)))
 
 pub returns : goal.returns
 returns c =

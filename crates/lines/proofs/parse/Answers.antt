@@ -15,5 +15,4 @@ slice_bounds-second-end c = sym (length-take-le _ _ c.find-e.ensures.1)
 pub returns : goal.returns
 unfolding parsed
 returns c =
-    let e = c in
-    c.second.ensures ∙ ap command_of (sym (words_more _ _ e.find-e.ensures.0 e.if-e-line.false))
+    c.second.ensures ∙ ap command_of (sym (words_more _ _ c.find-e.ensures.0 c.if-e-line.false))

@@ -8,14 +8,12 @@ use Rattle.lines.proofs.second.Goals as goal
 
 pub returns-then-e-rest : goal.returns-then-e-rest
 returns-then-e-rest c =
-    let e = c in
-    c.with_address.ensures ∙ rw c.decimal.ensures (sym (last_second _ _ (sym e.if-e-rest.true ∙ e.find-e.ensures.0)))
+    c.with_address.ensures ∙ rw c.decimal.ensures (sym (last_second _ _ (sym c.if-e-rest.true ∙ c.find-e.ensures.0)))
 
 pub slice_bounds-third-end : goal.slice_bounds-third-end
 slice_bounds-third-end c = sym (length-take-le _ _ c.find-e.ensures.1)
 
 pub returns : goal.returns
 returns c =
-    let e = c in
     let a = c.args in
-    c.third.ensures ∙ ap (λ ws. command_of (a.name.now ∷ ws)) (sym (words_more _ _ e.find-e.ensures.0 e.if-e-rest.false))
+    c.third.ensures ∙ ap (λ ws. command_of (a.name.now ∷ ws)) (sym (words_more _ _ c.find-e.ensures.0 c.if-e-rest.false))

@@ -7,10 +7,8 @@ returns-then-equal c = rw (c.in-Of.is, sym c.equal.ensures ∙ c.if-equal.true)
 
 pub returns-then-equal-2 : goal.returns-then-equal-2
 returns-then-equal-2 c =
-    let e = c in
-    rw (c.in-Of.is, sym e.equal.ensures ∙ e.if-equal.false, sym c.equal-2.ensures ∙ c.if-equal-2.true)
+    rw (c.in-Of.is, sym c.equal.ensures ∙ c.if-equal.false, sym c.equal-2.ensures ∙ c.if-equal-2.true)
 
 pub returns : goal.returns
 returns c =
-    let e = c in
-    rw (c.in-Of.is, sym e.equal.ensures ∙ e.if-equal.false, sym c.equal-2.ensures ∙ c.if-equal-2.false)
+    rw (c.in-Of.is, sym c.equal.ensures ∙ c.if-equal.false, sym c.equal-2.ensures ∙ c.if-equal-2.false)

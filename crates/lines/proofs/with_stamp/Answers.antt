@@ -4,12 +4,8 @@ use Rattle.lines.proofs.with_stamp.Goals as goal
 
 pub returns-then-equal : goal.returns-then-equal
 returns-then-equal c =
-    let t = c in
-    let v = t in
     rw (c.in-Of.is, c.in-Is.is, c.in-Of-stamp.is, sym c.equal.ensures ∙ c.if-equal.true)
 
 pub returns : goal.returns
 returns c =
-    let t = c in
-    let v = t in
     rw (c.in-Of.is, c.in-Is.is, c.in-Of-stamp.is, sym c.equal.ensures ∙ c.if-equal.false)

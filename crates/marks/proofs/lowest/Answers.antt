@@ -1,7 +1,7 @@
 -- `marks::lowest` meets its contract: every address below 64 q is in use, until a word has a zero. Assumes nothing.
 use borrow.Author.Rules.{rules}
 use mathlib.Core.Path.{sym, ap}
-use mathlib.Core.Bool.{true, not}
+use mathlib.Core.Bool.{not}
 use Prim.Native.Nat.{◌-◌, ◌*◌, ◌^◌}
 use native.Mathlib.Omega.{arith}
 use lib.Count.{trailing_le}

@@ -1,5 +1,5 @@
 -- `multiset::xored` meets its contract: a turn fills one place of the table more. Assumes nothing.
-use Rattle.std.proofs.Common.{◌≡◌, ℕ, List, length, get_or, set, replicate, refl, ap, ◌∙◌, arith, rules}
+use Rattle.std.proofs.Common.{◌≡◌, ℕ, List, length, set, replicate, refl, ap, ◌∙◌, arith, rules}
 use Rattle.octets.specs.Places.{tabulate}
 use Rattle.octets.proofs.Places.{fill_step, fill_end, tabulate_xor}
 use Rattle.multiset.proofs.xored.Invariants.{place}

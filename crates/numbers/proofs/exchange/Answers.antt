@@ -7,9 +7,6 @@ use Rattle.numbers.proofs.exchange.Goals as goal
 pub returns : goal.returns
 unfolding exchange_rows addresses value_size cell_size store_size ceiling
 returns c =
-    let k = c in
-    let j = k in
-    let i = j in
-    let x = i.args in
-    rw (c.row.ensures, k.row-n-5.ensures, k.used.ensures, j.row-n-4.ensures, j.row-n-3.ensures, i.row-n-2.ensures, i.row-n.ensures)
+    let x = c.args in
+    rw (c.row.ensures, c.row-n-5.ensures, c.used.ensures, c.row-n-4.ensures, c.row-n-3.ensures, c.row-n-2.ensures, c.row-n.ensures)
     (rows_first (exchange_rows width x.s x.store.now x.a x.buffer.now) tt)

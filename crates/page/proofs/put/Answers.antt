@@ -9,12 +9,10 @@ returns-then-at-end c = sym (write_full _ _ _ (omega arith))
 
 pub returns-then-bytes-end : goal.returns-then-bytes-end
 returns-then-bytes-end c =
-    let d = c in
-    let a = d.args in
-    write_part a.out.now _ _ a.at _ (omega arith) d.copy.ensures (omega arith)
+    let a = c.args in
+    write_part a.out.now _ _ a.at _ (omega arith) c.copy.ensures (omega arith)
 
 pub returns : goal.returns
 returns c =
-    let d = c in
-    let a = d.args in
-    write_part a.out.now _ _ a.at _ (omega arith) d.copy.ensures (omega arith)
+    let a = c.args in
+    write_part a.out.now _ _ a.at _ (omega arith) c.copy.ensures (omega arith)

@@ -13,14 +13,13 @@ loop-t-init c =
 
 pub loop-t-preserved : goal.loop-t-preserved
 loop-t-preserved c =
-    let at = c in
-    let w₀ = at.begun-w.result in
+    let w₀ = c.begun-w.result in
     let n : length w₀ ≡ 64 = search rules in
-    let t = at.loop-t.t in (
+    let t = c.loop-t.t in (
       omega arith,
       (
         omega arith,
-        ap (set at.loop-t.w t) c.next_word.ensures ∙ schedule_turn w₀ w₀ at.loop-t.w t (omega arith) (omega arith) at.loop-t.invariant.1.1,
+        ap (set c.loop-t.w t) c.next_word.ensures ∙ schedule_turn w₀ w₀ c.loop-t.w t (omega arith) (omega arith) c.loop-t.invariant.1.1,
       ),
     )
 

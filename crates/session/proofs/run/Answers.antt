@@ -17,6 +17,5 @@ returns-then-input-gt-LIMIT c =
 pub returns : goal.returns
 unfolding store_size
 returns c =
-    let s = c in
-    let input = s.args.input.now in
-    c.run_lines.ensures ∙ ap (write _) (sym (session_short input _ _ (omega arith) (ap (λ (x : Started). x.state) s.start-started.ensures) refl)) ∙ write_whole _ _ (omega (arith, session_fits input))
+    let input = c.args.input.now in
+    c.run_lines.ensures ∙ ap (write _) (sym (session_short input _ _ (omega arith) (ap (λ (x : Started). x.state) c.start-started.ensures) refl)) ∙ write_whole _ _ (omega (arith, session_fits input))

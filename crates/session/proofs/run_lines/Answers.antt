@@ -19,24 +19,19 @@ slice_bounds-parse-end c = sym (length-take-le _ _ c.find-end.ensures.1)
 
 pub overflow_add-done : goal.overflow_add-done
 overflow_add-done c =
-    let f = c in
-    omega (arith, simp (length-take, length-drop) at f.find-end.ensures.1, f.well_formed)
+    omega (arith, simp (length-take, length-drop) at c.find-end.ensures.1, c.well_formed)
 
 pub overflow_add-done-in-loop-done : goal.overflow_add-done-in-loop-done
 overflow_add-done-in-loop-done c =
-    let f = c in
-    omega (arith, simp (length-take, length-drop) at f.find-end.ensures.1, f.well_formed)
+    omega (arith, simp (length-take, length-drop) at c.find-end.ensures.1, c.well_formed)
 
 pub loop-done-preserved : goal.loop-done-preserved
 loop-done-preserved c =
-    let w = c in
-    let r = w in
-    let f = r in
-    let l = f.loop-done in (
-      w.say-at.auto.out ∙ l.invariant.0,
-      omega (arith, write_at _ _ _ w.say-at.ensures, w.say-at.auto.out),
-      turn _ _ _ _ _ _ _ _ r.parse.ensures r.run-r.ensures w.say-at.ensures
-          ∙ ap (λ ls. write (page l.out l.at) (output_of l.state l.store ls)) (sym (next_line f.args.input.now l.done _ f.loop-done-test.true f.find-end.ensures.0))
+    let l = c.loop-done in (
+      c.say-at.auto.out ∙ l.invariant.0,
+      omega (arith, write_at _ _ _ c.say-at.ensures, c.say-at.auto.out),
+      turn _ _ _ _ _ _ _ _ c.parse.ensures c.run-r.ensures c.say-at.ensures
+          ∙ ap (λ ls. write (page l.out l.at) (output_of l.state l.store ls)) (sym (next_line c.args.input.now l.done _ c.loop-done-test.true c.find-end.ensures.0))
           ∙ l.invariant.2,
     )
 

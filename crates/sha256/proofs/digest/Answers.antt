@@ -12,10 +12,6 @@ returns-then-out-ne32 c = let a = c.args in digest_not32 a.message.now a.out.now
 
 pub returns : goal.returns
 returns c =
-    let p = c in
-    let d = p in
-    let f = d in
-    let i = f in
-    let a = i.args in
-    let e = sha256_calls a.message.now _ _ _ (omega arith) i.initial_hash.ensures f.finish-h.ensures d.hash_bytes-d.ensures in
-    digest_done a.message.now a.out.now _ _ (omega arith) (omega arith) e p.copy.ensures
+    let a = c.args in
+    let e = sha256_calls a.message.now _ _ _ (omega arith) c.initial_hash.ensures c.finish-h.ensures c.hash_bytes-d.ensures in
+    digest_done a.message.now a.out.now _ _ (omega arith) (omega arith) e c.copy.ensures

@@ -10,17 +10,15 @@ use Rattle.store.proofs.add.Goals as goal
 
 pub added-state-requires : goal.added-state-requires
 added-state-requires c =
-    let b = c in
-    let x = b.args in
+    let x = c.args in
     let f : x.s.clock < 256 ^ width = search rules in
-    let r = add_ready width x.s x.store.now x.a x.value.now (sym b.add-number.ensures ∙ c.if-number-eq0.true) in
+    let r = add_ready width x.s x.store.now x.a x.value.now (sym c.add-number.ensures ∙ c.if-number-eq0.true) in
     (r.0.size, r.0.below, r.1.size, clock_below x.s.clock f r.1.time)
 
 pub returns-then-number-eq0 : goal.returns-then-number-eq0
 unfolding add_of
 returns-then-number-eq0 c =
-    let b = c in
-    done_seen _ _ _ _ _ b.add-number.ensures b.if-number-eq0.true c.added-state.ensures
+    done_seen _ _ _ _ _ c.add-number.ensures c.if-number-eq0.true c.added-state.ensures
 
 pub returns : goal.returns
 unfolding add_of

@@ -16,41 +16,28 @@ returns-then-number-ne0 c = refused_seen _ _ _ _ _ c.check-number.ensures c.if-n
 
 pub take_each-taken-requires : goal.take_each-taken-requires
 take_each-taken-requires c =
-    let d = c in
-    let b = d in
-    let x = b.args in
-    (check_ready width x.s x.store.now (sym b.check-number.ensures ∙ d.if-number-ne0.false)).1
+    let x = c.args in
+    (check_ready width x.s x.store.now (sym c.check-number.ensures ∙ c.if-number-ne0.false)).1
 
 pub put_each-state-requires : goal.put_each-state-requires
 put_each-state-requires c =
-    let d = c in
-    let b = d in
-    let x = b.args in
-    (check_ready width x.s x.store.now (sym b.check-number.ensures ∙ d.if-number-ne0.false)).1
+    let x = c.args in
+    (check_ready width x.s x.store.now (sym c.check-number.ensures ∙ c.if-number-ne0.false)).1
 
 pub returns-then-agrees : goal.returns-then-agrees
 unfolding check_of acceptance take_all put_all write_all
 returns-then-agrees c =
-    let p = c in
-    let o = p in
-    let a = o in
-    let d = a in
-    let b = d in
-    let x = b.args in
+    let x = c.args in
     let m = x.s.marks in
-    let e : agrees (take_each width tag m x.s x.store.now) ≡ true = sym (ap agrees a.take_each-taken.ensures) ∙ sym a.agrees.ensures ∙ o.if-agrees.true in
-    rw (call_done _ x.s x.store.now _ _ (sym b.check-number.ensures ∙ d.if-number-ne0.false), e)
-    (ap₂ (λ s m. seen 0 Accept s m _) (p.put_each-state.ensures.0 ∙ ap (λ s. put_each width tag m s x.store.now) o.opened.ensures) p.put_each-state.ensures.1)
+    let e : agrees (take_each width tag m x.s x.store.now) ≡ true = sym (ap agrees c.take_each-taken.ensures) ∙ sym c.agrees.ensures ∙ c.if-agrees.true in
+    rw (call_done _ x.s x.store.now _ _ (sym c.check-number.ensures ∙ c.if-number-ne0.false), e)
+    (ap₂ (λ s m. seen 0 Accept s m _) (c.put_each-state.ensures.0 ∙ ap (λ s. put_each width tag m s x.store.now) c.opened.ensures) c.put_each-state.ensures.1)
 
 pub returns : goal.returns
 unfolding check_of rejection take_all
 returns c =
-    let q = c in
-    let a = q in
-    let d = a in
-    let b = d in
-    let x = b.args in
-    let t = a.take_each-taken.ensures in
-    let e : agrees (take_each width tag x.s.marks x.s x.store.now) ≡ false = sym (ap agrees t) ∙ sym a.agrees.ensures ∙ q.if-agrees.false in
-    rw (call_done _ x.s x.store.now _ _ (sym b.check-number.ensures ∙ d.if-number-ne0.false), e)
-    (ap₂ (λ v s. seen 0 v s x.store.now _) (q.reason.ensures ∙ ap reason t) c.close.ensures)
+    let x = c.args in
+    let t = c.take_each-taken.ensures in
+    let e : agrees (take_each width tag x.s.marks x.s x.store.now) ≡ false = sym (ap agrees t) ∙ sym c.agrees.ensures ∙ c.if-agrees.false in
+    rw (call_done _ x.s x.store.now _ _ (sym c.check-number.ensures ∙ c.if-number-ne0.false), e)
+    (ap₂ (λ v s. seen 0 v s x.store.now _) (c.reason.ensures ∙ ap reason t) c.close.ensures)

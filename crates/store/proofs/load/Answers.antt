@@ -8,20 +8,16 @@ use Rattle.store.proofs.load.Goals as goal
 
 pub loaded-state-requires : goal.loaded-state-requires
 loaded-state-requires c =
-    let b = c in
-    let a = b in
-    let x = a.args in
-    -- by the clock's place among what is known of a state: `search` enters too few records to find it
-    let f = a.well_formed.0.1.1.1.1.1.0.1 in
-    let r = exchange_ready width x.s x.store.now x.a x.out.now (sym b.exchange-number.ensures ∙ c.if-number-eq0.true) in
+    let x = c.args in
+    -- by the clock's place among what is known of c state: `search` enters too few records to find it
+    let f = c.well_formed.0.1.1.1.1.1.0.1 in
+    let r = exchange_ready width x.s x.store.now x.a x.out.now (sym c.exchange-number.ensures ∙ c.if-number-eq0.true) in
     (r.0.size, r.0.below, r.1.size, clock_below x.s.clock f r.1.time)
 
 pub returns-then-number-eq0 : goal.returns-then-number-eq0
 unfolding load_of
 returns-then-number-eq0 c =
-    let d = c in
-    let b = d in
-    done_seen _ _ _ _ _ b.exchange-number.ensures b.if-number-eq0.true d.loaded-state.ensures
+    done_seen _ _ _ _ _ c.exchange-number.ensures c.if-number-eq0.true c.loaded-state.ensures
 
 pub returns : goal.returns
 unfolding load_of

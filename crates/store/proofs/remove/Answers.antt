@@ -8,16 +8,14 @@ use Rattle.store.proofs.remove.Goals as goal
 
 pub removed-state-requires : goal.removed-state-requires
 removed-state-requires c =
-    let b = c in
-    let x = b.args in
-    let r = remove_ready width x.s x.store.now x.a (sym b.remove-number.ensures ∙ c.if-number-eq0.true) in
+    let x = c.args in
+    let r = remove_ready width x.s x.store.now x.a (sym c.remove-number.ensures ∙ c.if-number-eq0.true) in
     (r.size, r.below)
 
 pub returns-then-number-eq0 : goal.returns-then-number-eq0
 unfolding remove_of
 returns-then-number-eq0 c =
-    let b = c in
-    done_seen _ _ _ _ _ b.remove-number.ensures b.if-number-eq0.true c.removed-state.ensures
+    done_seen _ _ _ _ _ c.remove-number.ensures c.if-number-eq0.true c.removed-state.ensures
 
 pub returns : goal.returns
 unfolding remove_of

@@ -10,17 +10,15 @@ use Rattle.store.proofs.store.Goals as goal
 
 pub stored-state-requires : goal.stored-state-requires
 stored-state-requires c =
-    let b = c in
-    let x = b.args in
+    let x = c.args in
     let f : x.s.clock < 256 ^ width = search rules in
-    let r = exchange_ready width x.s x.store.now x.a x.value.now (sym b.exchange-number.ensures ∙ c.if-number-eq0.true) in
+    let r = exchange_ready width x.s x.store.now x.a x.value.now (sym c.exchange-number.ensures ∙ c.if-number-eq0.true) in
     (r.0.size, r.0.below, r.1.size, clock_below x.s.clock f r.1.time)
 
 pub returns-then-number-eq0 : goal.returns-then-number-eq0
 unfolding store_of
 returns-then-number-eq0 c =
-    let b = c in
-    done_seen _ _ _ _ _ b.exchange-number.ensures b.if-number-eq0.true c.stored-state.ensures
+    done_seen _ _ _ _ _ c.exchange-number.ensures c.if-number-eq0.true c.stored-state.ensures
 
 pub returns : goal.returns
 unfolding store_of

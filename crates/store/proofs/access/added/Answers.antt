@@ -13,12 +13,9 @@ use Rattle.store.proofs.access.added.Goals as goal
 pub returns : goal.returns
 unfolding added with_marks value_size
 returns c =
-    let p = c in
-    let b = p in
-    let x = b in
-    let s = x.args.s in
-    let a = x.args.a in
-    let v : b.copy.new.to ≡ x.args.value.now = b.copy.ensures ∙ copied_all (replicate 28 0) x.args.value.now (sym x.requires.2) in
-    same_seen (ap₂ with_marks (p.put-r.ensures.0 ∙ ap (λ u. put_entry tag s (next s a u)) v) c.with_mark-n.ensures)
-    (p.put-r.ensures.1 ∙ ap (λ u. write_entry width x.args.store.now (next s a u)) v)
+    let s = c.args.s in
+    let a = c.args.a in
+    let v : c.copy.new.to ≡ c.args.value.now = c.copy.ensures ∙ copied_all (replicate 28 0) c.args.value.now (sym c.requires.2) in
+    same_seen (ap₂ with_marks (c.put-r.ensures.0 ∙ ap (λ u. put_entry tag s (next s a u)) v) c.with_mark-n.ensures)
+    (c.put-r.ensures.1 ∙ ap (λ u. write_entry width c.args.store.now (next s a u)) v)
     refl

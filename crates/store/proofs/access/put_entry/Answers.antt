@@ -7,6 +7,5 @@ use Rattle.store.proofs.access.put_entry.Goals as goal
 pub returns : goal.returns
 unfolding write_entry
 returns c =
-    let b = c in
-    let x = b.args in
-    (put_is tag x.s (entry x.a x.value x.stamp) c.with_tag-h.ensures c.tag.ensures, b.write.ensures)
+    let x = c.args in
+    (put_is tag x.s (entry x.a x.value x.stamp) c.with_tag-h.ensures c.tag.ensures, c.write.ensures)

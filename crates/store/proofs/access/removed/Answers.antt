@@ -9,5 +9,4 @@ use Rattle.store.proofs.access.removed.Goals as goal
 pub returns : goal.returns
 unfolding removed with_marks value_size
 returns c =
-    let w = c in
-    same_seen (ap₂ with_marks w.take-r.ensures c.without_mark-n.ensures) w.write.ensures refl
+    same_seen (ap₂ with_marks c.take-r.ensures c.without_mark-n.ensures) c.write.ensures refl

@@ -12,18 +12,13 @@ use Rattle.store.proofs.access.stored.Goals as goal
 
 pub put-requires : goal.put-requires
 put-requires c =
-    let x = c in
-    (x.requires.0, x.requires.1, rw (take_clock width tag x.args.s x.args.store.now x.args.a c.take-t.ensures) x.requires.3)
+    (c.requires.0, c.requires.1, rw (take_clock width tag c.args.s c.args.store.now c.args.a c.take-t.ensures) c.requires.3)
 
 pub returns : goal.returns
 unfolding stored value_size
 returns c =
-    let p = c in
-    let t = p in
-    let b = t in
-    let x = b in
-    let a = x.args.a in
-    let v : b.copy.new.to ≡ x.args.value.now = b.copy.ensures ∙ copied_all (replicate 28 0) x.args.value.now (sym x.requires.2) in
-    same_seen (p.put.ensures.0 ∙ ap₂ (λ s u. put_entry tag s (next s a u)) t.take-t.ensures v)
-    (p.put.ensures.1 ∙ ap₂ (λ s u. write_entry width x.args.store.now (next s a u)) t.take-t.ensures v)
+    let a = c.args.a in
+    let v : c.copy.new.to ≡ c.args.value.now = c.copy.ensures ∙ copied_all (replicate 28 0) c.args.value.now (sym c.requires.2) in
+    same_seen (c.put.ensures.0 ∙ ap₂ (λ s u. put_entry tag s (next s a u)) c.take-t.ensures v)
+    (c.put.ensures.1 ∙ ap₂ (λ s u. write_entry width c.args.store.now (next s a u)) c.take-t.ensures v)
     refl

@@ -8,7 +8,6 @@ use Rattle.store.proofs.cells.stamp_at.Goals as goal
 
 pub returns : goal.returns
 returns c =
-    let x = c in
-    let m = x.args.store.now in
-    let a = x.args.a in
-    c.stamp_at.ensures ∙ ap (λ b. cond b (stamp_at width m a) 0) (has_cell_true width m a x.requires.0 x.requires.1)
+    let m = c.args.store.now in
+    let a = c.args.a in
+    c.stamp_at.ensures ∙ ap (λ b. cond b (stamp_at width m a) 0) (has_cell_true width m a c.requires.0 c.requires.1)

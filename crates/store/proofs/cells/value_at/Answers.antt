@@ -11,8 +11,7 @@ use Rattle.store.proofs.cells.value_at.Goals as goal
 pub returns : goal.returns
 unfolding value_size
 returns c =
-    let x = c in
-    let m = x.args.store.now in
-    let a = x.args.a in
+    let m = c.args.store.now in
+    let a = c.args.a in
     c.copy.ensures ∙ ap (copied (replicate value_size 0)) c.value_part.ensures.0
-    ∙ copied_all (replicate value_size 0) (value_at width m a) (sym (value_length width m a x.requires.1 x.requires.0))
+    ∙ copied_all (replicate value_size 0) (value_at width m a) (sym (value_length width m a c.requires.1 c.requires.0))

@@ -11,8 +11,7 @@ use Rattle.store.proofs.cells.value_part.Goals as goal
 
 pub returns : goal.returns
 returns c =
-    let x = c in
-    let m = x.args.store.now in
-    let a = x.args.a in
-    let e = has_cell_true width m a x.requires.0 x.requires.1 in
-    (c.value_part.ensures.0 ∙ ap (λ b. cond b (value_at width m a) []) e, c.value_part.ensures.1 ∙ ap (λ b. lies x.args.store (cond b (cell_size width * a) 0)) e)
+    let m = c.args.store.now in
+    let a = c.args.a in
+    let e = has_cell_true width m a c.requires.0 c.requires.1 in
+    (c.value_part.ensures.0 ∙ ap (λ b. cond b (value_at width m a) []) e, c.value_part.ensures.1 ∙ ap (λ b. lies c.args.store (cond b (cell_size width * a) 0)) e)

@@ -8,8 +8,6 @@ use Rattle.store.proofs.cells.write.Goals as goal
 
 pub returns : goal.returns
 returns c =
-    let d = c in
-    let x = d in
-    let m = x.args.store.now in
-    let a = x.args.a in
-    d.write.ensures ∙ ap (λ b. cond b (write_cell width m a x.args.value x.args.stamp) m) (has_cell_true width m a x.requires.0 x.requires.1)
+    let m = c.args.store.now in
+    let a = c.args.a in
+    c.write.ensures ∙ ap (λ b. cond b (write_cell width m a c.args.value c.args.stamp) m) (has_cell_true width m a c.requires.0 c.requires.1)

@@ -11,30 +11,25 @@ use Rattle.store.proofs.checks.put_each.Goals as goal
 pub loop-a-init : goal.loop-a-init
 unfolding addresses
 loop-a-init c =
-    let x = c in
-    let n = next x.args.m 0 (omega arith) c.next_used-a.ensures in
-    let p = put_begin width tag x.args.m x.args.s x.args.store.now n in
-    (n.to, n.here, x.requires, p.0, p.1)
+    let n = next c.args.m 0 (omega arith) c.next_used-a.ensures in
+    let p = put_begin width tag c.args.m c.args.s c.args.store.now n in
+    (n.to, n.here, c.requires, p.0, p.1)
 
 pub loop-a-smaller : goal.loop-a-smaller
 unfolding addresses
 loop-a-smaller c =
-    let l = c in
-    omega (arith, (next l.args.m (l.loop-a.a + 1) (omega arith) c.next_used-a-in-loop-a.ensures).from)
+    omega (arith, (next c.args.m (c.loop-a.a + 1) (omega arith) c.next_used-a-in-loop-a.ensures).from)
 
 pub loop-a-preserved : goal.loop-a-preserved
 unfolding addresses
 loop-a-preserved c =
-    let b = c in
-    let d = b in
-    let x = d in
-    let l = d.loop-a in
-    let ws = x.args.m in
-    let s = x.args.s in
-    let m = x.args.store.now in
+    let l = c.loop-a in
+    let ws = c.args.m in
+    let s = c.args.s in
+    let m = c.args.store.now in
     let n = next ws (l.a + 1) (omega arith) c.next_used-a-in-loop-a.ensures in
-    let p = put_turn width tag ws s m l.a (omega arith) x.requires (l.invariant.1 (omega arith)) n (l.invariant.3, l.invariant.4) b.value_at-v.ensures c.put_entry-r.ensures in
-    (n.to, n.here, put_length width tag ws s m n.to x.requires p, p.0, p.1)
+    let p = put_turn width tag ws s m l.a (omega arith) c.requires (l.invariant.1 (omega arith)) n (l.invariant.3, l.invariant.4) c.value_at-v.ensures c.put_entry-r.ensures in
+    (n.to, n.here, put_length width tag ws s m n.to c.requires p, p.0, p.1)
 
 pub returns : goal.returns
 unfolding addresses

@@ -18,15 +18,13 @@ loop-a-init c =
 pub loop-a-smaller : goal.loop-a-smaller
 unfolding addresses
 loop-a-smaller c =
-    let l = c in
-    omega (arith, (next l.args.m (l.loop-a.a + 1) (omega arith) c.next_used-a-in-loop-a.ensures).from)
+    omega (arith, (next c.args.m (c.loop-a.a + 1) (omega arith) c.next_used-a-in-loop-a.ensures).from)
 
 pub loop-a-preserved : goal.loop-a-preserved
 unfolding addresses
 loop-a-preserved c =
-    let b = c in
-    let x = b.args in
-    let l = b.loop-a in
+    let x = c.args in
+    let l = c.loop-a in
     let n = next x.m (l.a + 1) (omega arith) c.next_used-a-in-loop-a.ensures in
     (n.to, n.here, take_turn width tag x.m x.s x.store.now l.a (l.invariant.1 (omega arith)) n l.invariant.2 c.take-r.ensures)
 
