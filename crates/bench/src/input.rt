@@ -1,5 +1,8 @@
-// An input read whole: `io::read_full` does not tell its end from a read that failed.
-ghost use Rattle.io.specs.Counts.{IsPrefixLen};
+// An input read whole: std's `read_exact` does not say how much it read, and its `read_to_end` allocates.
+ghost use Rattle.std.specs.Prelude.{◌≡◌, ◌<◌, ◌≤◌, false, length, take};
+ghost use Rattle.std.specs.Io.KnownBytes.{Consumes, IsAtEnd};
+
+use std::io::Read;
 
 // How many bytes were read, and whether a read failed after them.
 #[derive(Drop)]
@@ -9,19 +12,19 @@ pub struct Input {
 }
 
 // Reads until the buffer is full, the input ends or a read fails.
-pub fn read(fd: i32, buffer: &mut [u8]) -> Input
-    ensures { IsPrefixLen result.count buffer.new }
+pub fn read<R: Read>(reader: &mut R, buffer: &mut [u8]) -> Input
+    ensures within { result.count ≤ length buffer.new }
+    ensures bytes { Consumes (R.remaining reader.old) (R.remaining reader.new) (take result.count buffer.new) }
+    ensures whole { result.failed ≡ false → result.count < length buffer.new → IsAtEnd (R.remaining reader.new) }
 {
     let mut count = 0;
     while count < buffer.len() {
-        let got = libc::read(fd, &mut buffer[count..]);
-        if got < 0 {
+        let Ok(more) = reader.read(&mut buffer[count..]) else {
             return Input {
                 count,
                 failed: true,
             };
-        }
-        let more = io::count(got, &buffer[count..]);
+        };
         if more == 0 {
             return Input {
                 count,

@@ -5,22 +5,19 @@
 
 mod input;
 
-use libc::{STDERR_FILENO, STDIN_FILENO, STDOUT_FILENO};
+use std::io;
 
-fn main() {
+fn main(rt: HostRuntime) -> io::Result<()> {
     let mut space = [0u8; session::LIMIT + 1];
-    let found = input::read(STDIN_FILENO, &mut space);
+    let found = input::read(&mut rt.stdin(), &mut space);
     if found.failed {
-        io::write_all(
-            STDERR_FILENO,
-            b"bench: a read of the input failed, and nothing was run\n",
-        );
-        return;
+        return eprintln!(rt; "bench: a read of the input failed, and nothing was run");
     }
     let n = found.count;
     let mut out = [0u8; session::ROOM];
     let end = session::run(&space[..n], &mut out);
-    if !io::write_all(STDOUT_FILENO, &out[..end]) {
-        io::write_all(STDERR_FILENO, b"bench: a write of the answers failed\n");
+    if rt.write_all(&out[..end]).is_err() {
+        return eprintln!(rt; "bench: a write of the answers failed");
     }
+    Ok(())
 }

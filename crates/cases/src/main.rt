@@ -3,156 +3,167 @@
 #![tactic(auto)]
 
 use filter::{Action, Family, FilterRecord};
+use std::io;
 
 // No bit: past the last of 28 bytes.
 const NONE: usize = 224;
 
-fn main() {
-    lengths(Family::Ipv4, 33);
-    lengths(Family::Ipv6, 129);
-    past(Family::Ipv4, 33);
-    past(Family::Ipv6, 128);
-    above(Family::Ipv4, 33);
-    above(Family::Ipv6, 129);
-    below(Family::Ipv4, 32);
-    below(Family::Ipv6, 128);
-    each_bit(bytes(mixed(Family::Ipv4, 24, 32)));
-    each_bit(bytes(mixed(Family::Ipv6, 64, 128)));
-    spare_pairs(Family::Ipv4);
-    spare_pairs(Family::Ipv6);
-    members(Family::Ipv4);
-    members(Family::Ipv6);
-    edges(Family::Ipv4, 32);
-    edges(Family::Ipv6, 128);
-    orders(Family::Ipv4, 32);
-    orders(Family::Ipv6, 128);
-    sizes(doubled(bytes(exact(Family::Ipv6, 48))));
+fn main(rt: HostRuntime) -> io::Result<()> {
+    lengths(&rt, Family::Ipv4, 33)?;
+    lengths(&rt, Family::Ipv6, 129)?;
+    past(&rt, Family::Ipv4, 33)?;
+    past(&rt, Family::Ipv6, 128)?;
+    above(&rt, Family::Ipv4, 33)?;
+    above(&rt, Family::Ipv6, 129)?;
+    below(&rt, Family::Ipv4, 32)?;
+    below(&rt, Family::Ipv6, 128)?;
+    each_bit(&rt, bytes(mixed(Family::Ipv4, 24, 32)))?;
+    each_bit(&rt, bytes(mixed(Family::Ipv6, 64, 128)))?;
+    spare_pairs(&rt, Family::Ipv4)?;
+    spare_pairs(&rt, Family::Ipv6)?;
+    members(&rt, Family::Ipv4)?;
+    members(&rt, Family::Ipv6)?;
+    edges(&rt, Family::Ipv4, 32)?;
+    edges(&rt, Family::Ipv6, 128)?;
+    orders(&rt, Family::Ipv4, 32)?;
+    orders(&rt, Family::Ipv6, 128)?;
+    sizes(&rt, doubled(bytes(exact(Family::Ipv6, 48))))
 }
 
 // For each prefix length below the end: lawful filter records with it as the longest, with the family's top and with one between, and member 0.
-fn lengths(f: Family, end: u8) {
+fn lengths(rt: &impl Print, f: Family, end: u8) -> io::Result<()> {
     let mut l: u8 = 0;
     while l < end {
         let top = end - 1;
-        turned(f, l, NONE, NONE);
-        show(&bytes(mixed(f, l, top)));
-        show(&memberless(bytes(mixed(f, l, top))));
-        between(f, l, top);
+        turned(rt, f, l, NONE, NONE)?;
+        show(rt, &bytes(mixed(f, l, top)))?;
+        show(rt, &memberless(bytes(mixed(f, l, top))))?;
+        between(rt, f, l, top)?;
         l += 1;
     }
+    Ok(())
 }
 
 // A lawful filter record with a longest between its prefix length and the top, where there is one.
-fn between(f: Family, l: u8, top: u8) {
+fn between(rt: &impl Print, f: Family, l: u8, top: u8) -> io::Result<()> {
     if l < top {
         let half = (top - l) / 2;
         if half > 0 {
-            show(&bytes(mixed(f, l, l + half)));
+            show(rt, &bytes(mixed(f, l, l + half)))?;
         }
     }
+    Ok(())
 }
 
 // The first bit past the prefix length set, for each prefix length below the end.
-fn past(f: Family, end: u8) {
+fn past(rt: &impl Print, f: Family, end: u8) -> io::Result<()> {
     let mut l: u8 = 0;
     while l < end {
-        turned(f, l, 96 + l as usize, NONE);
+        turned(rt, f, l, 96 + l as usize, NONE)?;
         l += 1;
     }
+    Ok(())
 }
 
 // Each longest from a start on, to the largest of eight bits.
-fn above(f: Family, start: usize) {
+fn above(rt: &impl Print, f: Family, start: usize) -> io::Result<()> {
     let mut n = start;
     while n < 256 {
-        show(&with_longest(bytes(exact(f, 24)), n as u8));
+        show(rt, &with_longest(bytes(exact(f, 24)), n as u8))?;
         n += 1;
     }
+    Ok(())
 }
 
 // A longest one below the prefix length, for each below the end.
-fn below(f: Family, end: u8) {
+fn below(rt: &impl Print, f: Family, end: u8) -> io::Result<()> {
     let mut n: u8 = 0;
     while n < end {
-        show(&with_longest(bytes(exact(f, n + 1)), n));
+        show(rt, &with_longest(bytes(exact(f, n + 1)), n))?;
         n += 1;
     }
+    Ok(())
 }
 
 // Each bit turned, one at a time.
-fn each_bit(b: [u8; 28]) {
+fn each_bit(rt: &impl Print, b: [u8; 28]) -> io::Result<()> {
     let mut k = 0;
     while k < NONE {
-        show(&flip(b, k));
+        show(rt, &flip(b, k))?;
         k += 1;
     }
+    Ok(())
 }
 
 // Each two spare bits set.
-fn spare_pairs(f: Family) {
+fn spare_pairs(rt: &impl Print, f: Family) -> io::Result<()> {
     let mut i = 18;
     while i < 32 {
-        spare_from(f, i);
+        spare_from(rt, f, i)?;
         i += 1;
     }
+    Ok(())
 }
 
 // A spare bit set, with each of those after it.
-fn spare_from(f: Family, i: usize) {
+fn spare_from(rt: &impl Print, f: Family, i: usize) -> io::Result<()> {
     let mut j = 31;
     while i < j {
-        turned(f, 24, i, j);
+        turned(rt, f, 24, i, j)?;
         j -= 1;
     }
+    Ok(())
 }
 
 // A member of each one bit.
-fn members(f: Family) {
+fn members(rt: &impl Print, f: Family) -> io::Result<()> {
     let mut k: u32 = 0;
     while k < 32 {
         let mut r = mixed(f, 20, 22);
         r.member = 1 << k;
-        show(&bytes(r));
+        show(rt, &bytes(r))?;
         k += 1;
     }
+    Ok(())
 }
 
 // Lengths one above a family's top, a length above its longest, member 0, and the largest filter record.
-fn edges(f: Family, top: u8) {
-    turned(f, top, 9, NONE);
-    turned(f, top, 17, NONE);
-    turned(f, top, 9, 17);
-    turned(f, 0, 9, NONE);
-    turned(f, 24, 9, NONE);
-    turned(f, 0, 63, NONE);
-    turned(f, top, 63, NONE);
-    show(&bytes(full(f, top)));
+fn edges(rt: &impl Print, f: Family, top: u8) -> io::Result<()> {
+    turned(rt, f, top, 9, NONE)?;
+    turned(rt, f, top, 17, NONE)?;
+    turned(rt, f, top, 9, 17)?;
+    turned(rt, f, 0, 9, NONE)?;
+    turned(rt, f, 24, 9, NONE)?;
+    turned(rt, f, 0, 63, NONE)?;
+    turned(rt, f, top, 63, NONE)?;
+    show(rt, &bytes(full(f, top)))
 }
 
 // Two numbers of 12 to 15 due, each pair: the first is given.
-fn orders(f: Family, top: u8) {
-    turned(f, top, 31, 17);
-    turned(f, 24, 31, 223);
-    turned(f, top, 31, 63);
-    turned(f, 24, 9, 223);
-    turned(f, top, 17, 63);
-    turned(f, 24, 223, 63);
+fn orders(rt: &impl Print, f: Family, top: u8) -> io::Result<()> {
+    turned(rt, f, top, 31, 17)?;
+    turned(rt, f, 24, 31, 223)?;
+    turned(rt, f, top, 31, 63)?;
+    turned(rt, f, 24, 9, 223)?;
+    turned(rt, f, top, 17, 63)?;
+    turned(rt, f, 24, 223, 63)
 }
 
 // The case of an exact filter record with two of its bits turned.
-fn turned(f: Family, l: u8, i: usize, j: usize) {
-    show(&flip(flip(bytes(exact(f, l)), i), j));
+fn turned(rt: &impl Print, f: Family, l: u8, i: usize, j: usize) -> io::Result<()> {
+    show(rt, &flip(flip(bytes(exact(f, l)), i), j))
 }
 
 // The first bytes of these, as many as no filter record has.
-fn sizes(b: [u8; 56]) {
+fn sizes(rt: &impl Print, b: [u8; 56]) -> io::Result<()> {
     let mut n = 0;
     while n < 57 {
         if n != 28 {
-            show(&b[0..n]);
+            show(rt, &b[0..n])?;
         }
         n += 1;
     }
+    Ok(())
 }
 
 // The bytes of a filter record, twice.
@@ -295,46 +306,47 @@ fn above_zero(x: u32) -> u32 {
 }
 
 // A case: the bytes, the number, and the fields.
-fn show(b: &[u8]) {
-    hex(b);
+fn show(rt: &impl Print, b: &[u8]) -> io::Result<()> {
+    hex(rt, b)?;
     let u = filter::unpack(b);
     let r = u.filter;
     let f = r.family;
     let a = r.action;
     let p = r.prefix;
-    number(u.number as u64);
-    number(family(f));
-    number(action(a));
-    number(r.length as u64);
-    number(r.longest as u64);
-    number(r.member as u64);
-    number(r.serial as u64);
-    prefix(p);
-    io::write_all(1, b"\n");
+    number(rt, u.number as u64)?;
+    number(rt, family(f))?;
+    number(rt, action(a))?;
+    number(rt, r.length as u64)?;
+    number(rt, r.longest as u64)?;
+    number(rt, r.member as u64)?;
+    number(rt, r.serial as u64)?;
+    prefix(rt, p)?;
+    rt.write_all(b"\n")
 }
 
 // A blank, and a prefix in hex.
-fn prefix(p: [u8; 16]) {
-    io::write_all(1, b" ");
-    hex(&p);
+fn prefix(rt: &impl Print, p: [u8; 16]) -> io::Result<()> {
+    rt.write_all(b" ")?;
+    hex(rt, &p)
 }
 
-fn hex(b: &[u8]) {
+fn hex(rt: &impl Print, b: &[u8]) -> io::Result<()> {
     let mut i: usize = 0;
     while i < b.len() {
-        print_byte(b[i]);
+        print_byte(rt, b[i])?;
         i += 1;
     }
+    Ok(())
 }
 
-fn print_byte(x: u8) {
-    io::print_hex(1, x as u64, 2);
+fn print_byte(rt: &impl Print, x: u8) -> io::Result<()> {
+    print!(rt; "{x:02x}")
 }
 
 // A blank, and a number in decimal.
-fn number(n: u64) {
-    io::write_all(1, b" ");
-    io::print_decimal(1, n);
+fn number(rt: &impl Print, n: u64) -> io::Result<()> {
+    rt.write_all(b" ")?;
+    rt.print(n)
 }
 
 fn family(f: Family) -> u64 {

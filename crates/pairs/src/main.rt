@@ -4,6 +4,7 @@
 
 use filter::{Action, Family, FilterRecord};
 use going::Going;
+use std::io;
 use std::num::{wrapping_add_u32, wrapping_sub_u32};
 
 // Half way round.
@@ -18,7 +19,7 @@ const WAYS: u32 = 4;
 
 const SHAPES: u32 = 8;
 
-#[derive(Drop)]
+#[derive(Clone, Copy)]
 enum Kind {
     Edge,
     Near,
@@ -28,70 +29,75 @@ enum Kind {
     Shape,
 }
 
-fn main() {
-    each(Kind::Edge, EDGES * EDGES);
-    each(Kind::Near, NEAR * 20);
-    each(Kind::Power, 64);
-    each(Kind::Mixed, 400);
-    each(Kind::Member, 32 * WAYS);
-    each(Kind::Shape, SHAPES * SHAPES * WAYS);
+fn main(rt: HostRuntime) -> io::Result<()> {
+    each(&rt, Kind::Edge, EDGES * EDGES)?;
+    each(&rt, Kind::Near, NEAR * 20)?;
+    each(&rt, Kind::Power, 64)?;
+    each(&rt, Kind::Mixed, 400)?;
+    each(&rt, Kind::Member, 32 * WAYS)?;
+    each(&rt, Kind::Shape, SHAPES * SHAPES * WAYS)
 }
 
 // The cases of a kind, from number 0 to the end.
-fn each(kind: Kind, end: u32) {
+fn each(rt: &impl Print, kind: Kind, end: u32) -> io::Result<()> {
     let mut n: u32 = 0;
     while n < end {
-        one(kind, n);
+        one(rt, kind, n)?;
         n += 1;
     }
+    Ok(())
 }
 
-fn one(kind: Kind, n: u32) {
+fn one(rt: &impl Print, kind: Kind, n: u32) -> io::Result<()> {
     match kind {
-        Kind::Edge => edges(n),
-        Kind::Near => nearby(n),
-        Kind::Power => powers(n),
-        Kind::Mixed => mixed(n),
-        Kind::Member => members(n),
-        Kind::Shape => shapes(n),
+        Kind::Edge => edges(rt, n),
+        Kind::Near => nearby(rt, n),
+        Kind::Power => powers(rt, n),
+        Kind::Mixed => mixed(rt, n),
+        Kind::Member => members(rt, n),
+        Kind::Shape => shapes(rt, n),
     }
 }
 
 // An edge serial with an edge serial.
-fn edges(n: u32) {
+fn edges(rt: &impl Print, n: u32) -> io::Result<()> {
     show(
+        rt,
         shaped(0, 64496, edge(n / EDGES)),
         shaped(0, 64496, edge(n % EDGES)),
-    );
+    )
 }
 
 // Any serial, and one that is a little way from it or from half way round.
-fn nearby(n: u32) {
+fn nearby(rt: &impl Print, n: u32) -> io::Result<()> {
     let held = next(n);
     show(
+        rt,
         shaped(0, 64497, held),
         shaped(0, 64497, wrapping_add_u32(held, near(n % NEAR))),
-    );
+    )
 }
 
 // Any serial, and one that is a power of two ahead of it or behind it.
-fn powers(n: u32) {
+fn powers(rt: &impl Print, n: u32) -> io::Result<()> {
     let held = next(n);
     show(
+        rt,
         shaped(0, 64498, held),
         shaped(0, 64498, moved(held, 1 << (n / 2 % 32), n % 2 == 0)),
-    );
+    )
 }
 
 // Any two serials of any member, or of any two, with the other fields of any two shapes.
-fn mixed(n: u32) {
+fn mixed(rt: &impl Print, n: u32) -> io::Result<()> {
     let held = mix(n);
     let offered = mix(held);
     let member = above_zero(mix(offered));
     show(
+        rt,
         shaped(high(held), member, held),
         shaped(high(offered), fourth(n, member), offered),
-    );
+    )
 }
 
 // A member, or at every fourth number another one.
@@ -104,26 +110,28 @@ fn fourth(n: u32, member: u32) -> u32 {
 }
 
 // Members that differ in one bit, with serials that are equal, have no order, or are one apart.
-fn members(n: u32) {
+fn members(rt: &impl Print, n: u32) -> io::Result<()> {
     let held = next(n);
     show(
+        rt,
         shaped(0, 64499, held),
         shaped(
             0,
             64499 ^ (1 << (n / WAYS % 32)),
             wrapping_add_u32(held, way(n % WAYS)),
         ),
-    );
+    )
 }
 
 // A filter record of each shape with one of each, of one member, with serials as above.
-fn shapes(n: u32) {
+fn shapes(rt: &impl Print, n: u32) -> io::Result<()> {
     let held = next(n);
     let two = n / WAYS;
     show(
+        rt,
         shaped(two / SHAPES, 64500, held),
         shaped(two % SHAPES, 64500, wrapping_add_u32(held, way(n % WAYS))),
-    );
+    )
 }
 
 fn edge(i: u32) -> u32 {
@@ -235,13 +243,13 @@ fn above_zero(x: u32) -> u32 {
 }
 
 // A case: the bytes of the two filter records, and what is said of the filter records that these bytes are.
-fn show(held: FilterRecord, offered: FilterRecord) {
+fn show(rt: &impl Print, held: FilterRecord, offered: FilterRecord) -> io::Result<()> {
     let h = packed(held);
     let o = packed(offered);
-    hex(h);
-    hex(o);
-    say(going::compare(read(h), read(o)));
-    io::write_all(1, b"\n");
+    hex(rt, h)?;
+    hex(rt, o)?;
+    say(rt, going::compare(read(h), read(o)))?;
+    rt.write_all(b"\n")
 }
 
 fn packed(r: FilterRecord) -> [u8; 28] {
@@ -256,44 +264,40 @@ fn read(b: [u8; 28]) -> FilterRecord {
 }
 
 // Bytes in hex, and a blank.
-fn hex(b: [u8; 28]) {
+fn hex(rt: &impl Print, b: [u8; 28]) -> io::Result<()> {
     let mut i: usize = 0;
     while i < 28 {
-        two_digits(b[i]);
+        two_digits(rt, b[i])?;
         i += 1;
     }
-    io::write_all(1, b" ");
+    rt.write_all(b" ")
 }
 
-fn two_digits(x: u8) {
-    io::print_hex(1, x as u64, 2);
+fn two_digits(rt: &impl Print, x: u8) -> io::Result<()> {
+    print!(rt; "{x:02x}")
 }
 
-fn say(g: Going) {
+fn say(rt: &impl Print, g: Going) -> io::Result<()> {
     match g {
-        Going::OtherMember => {
-            io::write_all(1, b"other");
-        }
-        Going::NoOrder => {
-            io::write_all(1, b"refused 16");
-        }
+        Going::OtherMember => rt.write_all(b"other"),
+        Going::NoOrder => rt.write_all(b"refused 16"),
         Going::Back(d) => {
-            io::write_all(1, b"back ");
-            signed(d);
+            rt.write_all(b"back ")?;
+            signed(rt, d)
         }
         Going::Forward(d) => {
-            io::write_all(1, b"forward ");
-            signed(d);
+            rt.write_all(b"forward ")?;
+            signed(rt, d)
         }
     }
 }
 
 // A signed number in decimal.
-fn signed(d: i32) {
+fn signed(rt: &impl Print, d: i32) -> io::Result<()> {
     if d < 0 {
-        io::write_all(1, b"-");
+        rt.write_all(b"-")?;
     }
-    io::print_decimal(1, magnitude(d));
+    rt.print(magnitude(d))
 }
 
 fn magnitude(d: i32) -> u64 {

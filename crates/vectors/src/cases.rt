@@ -1,8 +1,11 @@
 // The cases of a file of vectors: the lines `Len`, for HMAC `Key`, then `Msg` and `MD`.
-ghost use Rattle.std.specs.Prelude.{◌≡◌, ◌≤◌, length};
+ghost use Rattle.std.specs.Prelude.{◌≡◌, ◌≤◌, length, IfOk};
 
 use crate::values;
+use std::io::Read;
 use std::num::wrapping_add_u64;
+use std::rt::Files;
+use std::{fs, io};
 use text::Number;
 
 // How many cases there are, by their `Len` lines, how many agree, and how many of these by a tag that was cut.
@@ -48,7 +51,7 @@ fn expects(case: &[u8], out: [u8; 32], n: usize) -> bool
 {
     let mut buffer = [0u8; 32];
     let expected = &mut buffer[0..n];
-    values::named(case, b"MD = ", expected) && check::same(&out[0..n], expected)
+    values::named(case, b"MD = ", expected) && &out[0..n] == &expected[..]
 }
 
 // No case yet.
@@ -88,21 +91,21 @@ fn all(file: &[u8], keyed: bool) -> Seen {
 }
 
 // Prints some words and a number.
-pub fn part(words: &[u8], n: u64) {
-    io::write_all(1, words);
-    io::print_decimal(1, n);
+pub fn part(rt: &impl Print, words: &[u8], n: u64) -> io::Result<()> {
+    rt.write_all(words)?;
+    rt.print(n)
 }
 
 // Prints how many cases agree.
-pub fn report(name: &[u8], s: Seen) {
-    part(name, s.agree);
-    part(b" of ", s.cases);
-    io::write_all(1, b" agree");
+pub fn report(rt: &impl Print, name: &[u8], s: Seen) -> io::Result<()> {
+    part(rt, name, s.agree)?;
+    part(rt, b" of ", s.cases)?;
+    rt.write_all(b" agree")?;
     if s.cut > 0 {
-        part(b", ", s.cut);
-        io::write_all(1, b" by its first 16 bytes");
+        part(rt, b", ", s.cut)?;
+        rt.write_all(b" by its first 16 bytes")?;
     }
-    io::write_all(1, b"\n");
+    rt.write_all(b"\n")
 }
 
 // Room for a file.
@@ -113,21 +116,35 @@ pub fn room() -> [u8; 524288]
 }
 
 // Reads a file into its room, and gives its length.
-pub fn read(path: &[u8], file: &mut [u8]) -> usize
-    ensures { result ≤ length file.new }
+pub fn read(rt: &(impl Files + Print), path: &str, file: &mut [u8]) -> io::Result<usize>
+    ensures { IfOk result (λ n. n ≤ length file.new) }
 {
-    let fd = os::open_read(path);
-    let n = io::read_full(fd, file);
-    libc::close(fd);
+    let mut opened = fs::open(rt, path)?;
+    let n = read_full(&mut opened, file)?;
     if n == file.len() {
-        io::write_all(1, b"too long: ");
+        rt.write_all(b"too long: ")?;
     }
-    n
+    Ok(n)
+}
+
+// Reads until the room is full or the file ends, and gives how much was read.
+fn read_full(opened: &mut impl Read, file: &mut [u8]) -> io::Result<usize>
+    ensures { IfOk result (λ n. n ≤ length file.new) }
+{
+    let mut n = 0;
+    while n < file.len() {
+        let more = opened.read(&mut file[n..])?;
+        if more == 0 {
+            break;
+        }
+        n += more;
+    }
+    Ok(n)
 }
 
 // Runs the cases of a file, and prints how many agree.
-pub fn run(path: &[u8], name: &[u8], keyed: bool) {
+pub fn run(rt: &(impl Files + Print), path: &str, name: &[u8], keyed: bool) -> io::Result<()> {
     let mut file = room();
-    let n = read(path, &mut file);
-    report(name, all(&file[0..n], keyed));
+    let n = read(rt, path, &mut file)?;
+    report(rt, name, all(&file[0..n], keyed))
 }

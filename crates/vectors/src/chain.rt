@@ -1,5 +1,7 @@
 // NIST's Monte Carlo test: from a seed on, digests of the last three digests. Each thousandth is the file's next, and the seed of the thousand after it.
 use crate::{cases, values};
+use std::io;
+use std::rt::Files;
 
 // Three digests side by side.
 fn joined(a: [u8; 32], b: [u8; 32], c: [u8; 32]) -> [u8; 96] {
@@ -55,8 +57,8 @@ fn all(file: &[u8]) -> cases::Seen {
 }
 
 // Runs the chain of a file, and prints how many of its digests agree.
-pub fn run(path: &[u8], name: &[u8]) {
+pub fn run(rt: &(impl Files + Print), path: &str, name: &[u8]) -> io::Result<()> {
     let mut file = cases::room();
-    let n = cases::read(path, &mut file);
-    cases::report(name, all(&file[0..n]));
+    let n = cases::read(rt, path, &mut file)?;
+    cases::report(rt, name, all(&file[0..n]))
 }

@@ -6,12 +6,14 @@ mod cases;
 mod chain;
 mod values;
 
-fn main() {
-    cases::run(b"SHA256ShortMsg.rsp", b"SHA256ShortMsg ", false);
-    cases::run(b"SHA256LongMsg.rsp", b"SHA256LongMsg ", false);
-    chain::run(b"SHA256Monte.rsp", b"SHA256Monte ");
-    cases::run(b"rfc4231-sha256.txt", b"RFC 4231 ", true);
-    bounds::digests();
-    bounds::macs();
-    bounds::tags();
+use std::io;
+
+fn main(rt: HostRuntime) -> io::Result<()> {
+    cases::run(&rt, "SHA256ShortMsg.rsp", b"SHA256ShortMsg ", false)?;
+    cases::run(&rt, "SHA256LongMsg.rsp", b"SHA256LongMsg ", false)?;
+    chain::run(&rt, "SHA256Monte.rsp", b"SHA256Monte ")?;
+    cases::run(&rt, "rfc4231-sha256.txt", b"RFC 4231 ", true)?;
+    bounds::digests(&rt)?;
+    bounds::macs(&rt)?;
+    bounds::tags(&rt)
 }

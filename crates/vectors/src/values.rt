@@ -11,7 +11,7 @@ pub fn after<'a>(text: &'a [u8], name: &[u8]) -> &'a [u8]
     while at < text.len() {
         let rest = &text[at..];
         if name.len() <= rest.len() {
-            if check::same(&rest[0..name.len()], name) {
+            if &rest[0..name.len()] == name {
                 return &rest[name.len()..];
             }
         }
