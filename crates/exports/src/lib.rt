@@ -1,4 +1,5 @@
-// The library under C names. Each call is lent the caller's own structs and buffers, changes them in place, and answers with a number.
+// The calls as other languages make them. Each is lent the caller's own structs and buffers, changes them in place, and answers with a number. They are
+// exported under these names by the static library `exports_c`.
 #![tactic(auto)]
 
 ghost use Rattle.std.specs.Prelude.{◌≡◌, []};
@@ -21,8 +22,7 @@ use held::{Fields, Held};
 use state::State;
 
 // Starts a state under a key of 32 bytes; for any other key number 8, and a closed state of zeros.
-#[unsafe(no_mangle)]
-pub extern "C" fn pintlecup_start(state: &mut Held, key: &[u8]) -> u8
+pub fn pintlecup_start(state: &mut Held, key: &[u8]) -> u8
     ensures { (result ≡ (start_of key.now).number) × (state.new ≡ held_of (start_of key.now).state) }
 {
     let started = held::start(key);
@@ -31,13 +31,7 @@ pub extern "C" fn pintlecup_start(state: &mut Held, key: &[u8]) -> u8
 }
 
 // Puts a value at an address that is not in use, and marks it in use.
-#[unsafe(no_mangle)]
-pub extern "C" fn pintlecup_add(
-    state: &mut Held,
-    store: &mut [u8],
-    address: usize,
-    value: &[u8],
-) -> u8
+pub fn pintlecup_add(state: &mut Held, store: &mut [u8], address: usize, value: &[u8]) -> u8
     ensures { left result state.new store.new []
         ≡ in_place state.old (add_of width tag (state_of state.old) store.old address value.now).seen }
 {
@@ -48,13 +42,7 @@ pub extern "C" fn pintlecup_add(
 }
 
 // Takes the value at an address in use, puts it back, and copies it out.
-#[unsafe(no_mangle)]
-pub extern "C" fn pintlecup_load(
-    state: &mut Held,
-    store: &mut [u8],
-    address: usize,
-    out: &mut [u8],
-) -> u8
+pub fn pintlecup_load(state: &mut Held, store: &mut [u8], address: usize, out: &mut [u8]) -> u8
     ensures { left result state.new store.new out.new
         ≡ in_place state.old (load_of width tag (state_of state.old) store.old address out.old).seen }
 {
@@ -65,13 +53,7 @@ pub extern "C" fn pintlecup_load(
 }
 
 // Takes the value at an address in use, and puts a new one.
-#[unsafe(no_mangle)]
-pub extern "C" fn pintlecup_store(
-    state: &mut Held,
-    store: &mut [u8],
-    address: usize,
-    value: &[u8],
-) -> u8
+pub fn pintlecup_store(state: &mut Held, store: &mut [u8], address: usize, value: &[u8]) -> u8
     ensures { left result state.new store.new []
         ≡ in_place state.old (store_of width tag (state_of state.old) store.old address value.now).seen }
 {
@@ -82,8 +64,7 @@ pub extern "C" fn pintlecup_store(
 }
 
 // Takes the value at an address in use, fills its cell with zeros, and clears its mark.
-#[unsafe(no_mangle)]
-pub extern "C" fn pintlecup_remove(state: &mut Held, store: &mut [u8], address: usize) -> u8
+pub fn pintlecup_remove(state: &mut Held, store: &mut [u8], address: usize) -> u8
     ensures { left result state.new store.new []
         ≡ in_place state.old (remove_of width tag (state_of state.old) store.old address).seen }
 {
@@ -95,8 +76,7 @@ pub extern "C" fn pintlecup_remove(state: &mut Held, store: &mut [u8], address: 
 
 // 0 where the check accepts. Where it rejects the state is closed: 254 for a stamp that was ahead of the clock, and the lent address is that of the first; 255
 // for the tags. Else the number of a refusal. The lent address is written with 254 alone.
-#[unsafe(no_mangle)]
-pub extern "C" fn pintlecup_check(state: &mut Held, store: &mut [u8], address: &mut usize) -> u8
+pub fn pintlecup_check(state: &mut Held, store: &mut [u8], address: &mut usize) -> u8
     ensures { (left result state.new store.new []
         ≡ in_place state.old (check_of width tag (state_of state.old) store.old).seen)
         × (address.new ≡ stamp_or address.old (check_of width tag (state_of state.old) store.old).seen.verdict) }
@@ -110,8 +90,7 @@ pub extern "C" fn pintlecup_check(state: &mut Held, store: &mut [u8], address: &
 }
 
 // Where in the lent store the value's bytes begin; the size of a store where its size or the address is refused.
-#[unsafe(no_mangle)]
-pub extern "C" fn pintlecup_look(store: &[u8], address: usize) -> usize
+pub fn pintlecup_look(store: &[u8], address: usize) -> usize
     ensures { result ≡ look_answer width store.now address }
 {
     if numbers::look(store, address) == 0 {
@@ -121,8 +100,7 @@ pub extern "C" fn pintlecup_look(store: &[u8], address: usize) -> usize
 }
 
 // How many addresses are in use.
-#[unsafe(no_mangle)]
-pub extern "C" fn pintlecup_count(state: &Held) -> u32
+pub fn pintlecup_count(state: &Held) -> u32
     ensures { result ≡ count_of state.now.marks }
 {
     let h = *state;
@@ -130,8 +108,7 @@ pub extern "C" fn pintlecup_count(state: &Held) -> u32
 }
 
 // The smallest address that is not in use, with 0; or 9 where there is none, and the lent address is left.
-#[unsafe(no_mangle)]
-pub extern "C" fn pintlecup_lowest_free(state: &Held, address: &mut usize) -> u8
+pub fn pintlecup_lowest_free(state: &Held, address: &mut usize) -> u8
     ensures { (result ≡ free_number (lowest_of state.now.marks))
         × (address.new ≡ free_or address.old (lowest_of state.now.marks)) }
 {
@@ -143,24 +120,21 @@ pub extern "C" fn pintlecup_lowest_free(state: &Held, address: &mut usize) -> u8
 }
 
 // The digest of up to 8,192 bytes.
-#[unsafe(no_mangle)]
-pub extern "C" fn pintlecup_digest(message: &[u8], out: &mut [u8]) -> u8
+pub fn pintlecup_digest(message: &[u8], out: &mut [u8]) -> u8
     ensures { filled result out.new ≡ digest_of message.now out.old }
 {
     sha256::digest(message, out)
 }
 
 // The HMAC of up to 4,096 bytes under a key of up to 1,024.
-#[unsafe(no_mangle)]
-pub extern "C" fn pintlecup_hmac(key: &[u8], message: &[u8], out: &mut [u8]) -> u8
+pub fn pintlecup_hmac(key: &[u8], message: &[u8], out: &mut [u8]) -> u8
     ensures { filled result out.new ≡ mac_of key.now message.now out.old }
 {
     hmac::mac(key, message, out)
 }
 
 // Packs a filter record into 28 lent bytes.
-#[unsafe(no_mangle)]
-pub extern "C" fn pintlecup_pack(filter: &Fields, out: &mut [u8]) -> u8
+pub fn pintlecup_pack(filter: &Fields, out: &mut [u8]) -> u8
     ensures { filled result out.new ≡ pack_of (record_of filter.now) out.old }
 {
     let f = *filter;
@@ -168,8 +142,7 @@ pub extern "C" fn pintlecup_pack(filter: &Fields, out: &mut [u8]) -> u8
 }
 
 // Unpacks 28 bytes into a filter record; zero in every field where they are refused.
-#[unsafe(no_mangle)]
-pub extern "C" fn pintlecup_unpack(bytes: &[u8], filter: &mut Fields) -> u8
+pub fn pintlecup_unpack(bytes: &[u8], filter: &mut Fields) -> u8
     ensures { (result ≡ (unpack_of bytes.now).number) × (filter.new ≡ fields_of (unpack_of bytes.now).filter) }
 {
     let unpacked = held::unpack(bytes);
@@ -178,8 +151,7 @@ pub extern "C" fn pintlecup_unpack(bytes: &[u8], filter: &mut Fields) -> u8
 }
 
 // Of a filter record held and one offered: 0 forward, 1 back, 2 another member's, 16 no order. The lent distance is written with 0 and 1 alone.
-#[unsafe(no_mangle)]
-pub extern "C" fn pintlecup_compare(held: &Fields, offered: &Fields, distance: &mut i32) -> u8
+pub fn pintlecup_compare(held: &Fields, offered: &Fields, distance: &mut i32) -> u8
     ensures { (result ≡ going_answer (going_of (record_of held.now) (record_of offered.now)))
         × (distance.new ≡ distance_or distance.old (going_of (record_of held.now) (record_of offered.now))) }
 {
