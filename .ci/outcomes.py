@@ -3,7 +3,9 @@
 A public function is what another crate can name: the toolchain writes it into the proved library under its whole path, modules and type
 included. Its contract must tell something; `Outcomes` or `Exported` must have one entry of it, in one of two forms (one is of what the toolchain
 reads of the contract, the other of the contract's clauses); and the page must have one row that begins with its path, names that entry, and has
-two wrong answers or more. Runs after the proofs. Prints what does not hold; exit status 1 where something does not.
+two wrong answers or more. Nothing in a static library can be named by another crate: each of its functions must have, word for word, the signature
+and the clauses of a function of one library, and each of that library's functions must be there. Runs after the proofs. Prints what does not hold;
+exit status 1 where something does not.
 """
 import collections
 import json
@@ -20,10 +22,32 @@ TIGHT = "Tight {0}.ended {0}Reads.Asked {0}Reads.Learnt"
 LENT = "TightLent {0}.ended (λ M 𝓤. {0}.clauses {{M = M}} {{𝓤 = 𝓤}})"
 
 
+def heads(crate):
+    """The public functions of a crate's root file: each name with its signature and clauses, and what these import."""
+    text = bare((TOP / "crates" / crate / "src/lib.rt").read_text())
+    found = re.findall(r'(?ms)^pub (?:extern "C" )?fn (\w+)(.*?)^\{', text)
+    imports = set(re.findall(r"(?ms)^ghost use .*?;$", text))
+    return {name: re.sub(r",?\s*([()])\s*", r"\1", " ".join(head.split())) for name, head in found}, imports
+
+
+def static_libraries():
+    """What does not hold of the static libraries."""
+    crates = (TOP / "crates.txt").read_text()
+    wrong = [f"crates.txt has a line of another form: {line}" for line in re.findall(r"(?m)^(?!#|\s*$|\w+(?: staticlib)?:).+$", crates)]
+    for crate, below in re.findall(r"(?m)^(\w+) staticlib:(.*)$", crates):
+        mine = heads(crate)
+        same = [one for one in below.split() if (TOP / "crates" / one).exists() and heads(one)[0].keys() == mine[0].keys()]
+        if len(same) != 1 or heads(same[0])[1] != mine[1]:
+            wrong.append(f"{crate} has not the functions and the `ghost use` lines of one library that it uses")
+        else:
+            wrong += [f"{crate}::{name} has another contract than {same[0]}::{name}" for name, head in mine[0].items() if heads(same[0])[0][name] != head]
+    return wrong
+
+
 def functions():
     """The public functions of the libraries by their paths, each with whether its contract tells something (None: the toolchain does not read it)."""
     found = {}
-    for crate in re.findall(r"(?m)^(\w+)\b[^:\n]*:", (TOP / "crates.txt").read_text()):
+    for crate in re.findall(r"(?m)^(\w+):", (TOP / "crates.txt").read_text()):
         if not (TOP / "crates" / crate / "src/lib.rt").exists():
             continue
         made = TOP / "crates" / crate / "out/rlib" / f"{crate}.rlib" / "lang/antt/made.json"
@@ -57,6 +81,7 @@ def main():
     rows = re.findall(r"(?m)^\| `(\w+(?:::\w+)+)` \| .+ \| `outcomes/specs/(\w+).antt` `(\S+)` \| (.+) \|$", page)
     public = functions()
     wrong = [f"docs/TIGHTNESS.md has a row of {path}, which is no public function" for path, *_ in rows if path not in public]
+    wrong += static_libraries()
     for path, tells in sorted(public.items()):
         crate, *inner = path.split("::")
         file = "Exports" if crate in ("held", "exports") else "Outcomes"
