@@ -22,12 +22,12 @@ PROVED = re.compile(r"`(\w+)/specs/([\w/]+)\.antt`(?: `[^`]+`)*? `([^`]+)`, prov
 def declares(text, name):
     """Whether a text declares a name: a definition, a type, a field, a constructor, a function or a constant."""
     marks = r"(?:pub\s+|abbrev\s+|unfoldable\s+|const\s+|extern\s+.C.\s+|fn\s+|struct\s+|enum\s+|record\s+|data\s+)*"
-    return re.search(rf"(?m)^\s*{marks}{re.escape(name)}(?![\w·-])", text)
+    return re.search(rf"(?m)^\s*{marks}{re.escape(name)}(?![\w'-])", text)
 
 
 def proves(crate, module, claim, text, name):
     """Whether the text has a proof of that name of the claim of that module."""
-    brought = re.findall(rf"(?m)^use Rattle·{crate}(?:·specs)?\.specs\.{module.replace('/', '.')}\.\{{([^}}]*)\}}", text)
+    brought = re.findall(rf"(?m)^use Rattle\.{crate}\.specs\.{module.replace('/', '.')}\.\{{([^}}]*)\}}", text)
     claimed = re.search(rf"(?m)^pub {re.escape(name)} : ([^→]*?)\n(?:unfolding |{re.escape(name)} )", text)
     return claim in [one.strip() for one in ",".join(brought).split(",")] and claimed and claimed[1].split()[0] == claim
 

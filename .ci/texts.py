@@ -64,7 +64,7 @@ def declarations(files):
 
 def words(text):
     """The names in an antt text: of a path or a field each part, of an operator what stands between its places."""
-    return {word for token in re.split(r"[\s(){};,.]+", text) for word in re.split("_+", token) if word}
+    return {word for token in re.split(r"[\s(){};,.«»]+", text) for word in re.split("◌+", token) if word}
 
 
 def reads(declared, place):

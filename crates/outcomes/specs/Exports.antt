@@ -1,6 +1,6 @@
--- 01, "How tight each contract is", of the calls under C names, and of those by value that do their work. A function that is lent a struct has its contract in
--- the toolchain's program logic alone; there, in every model, it asks nothing and tells one plain claim, and any two outcomes that the claim admits are equal.
--- Assumes nothing.
+-- How tight each contract is, of the calls under C names, and of those by value that do their work. Of a function that is lent a struct the entry speaks of the
+-- clauses in the toolchain's program logic: there, in every model, they ask nothing and tell one plain claim, and any two outcomes that the claim admits are
+-- equal. Assumes nothing.
 use Rattle.std.specs.Prelude.{◌≡◌}
 use seplogic.Ra.Ura.{Ura}
 use base.Logic.{SProp, emp}
@@ -12,28 +12,42 @@ use contract.Monad.{Fun, fact}
 use denote.Triple.Entry.{Args, Res}
 use denote.Triple.Clauses.{Ended, Clauses, Lasts, AtExit, at_exit}
 use Rattle.outcomes.specs.Outcomes.{Tight}
-use Rattle.held.proofs.start as HeldStart
-use Rattle.held.proofs.add as HeldAdd
-use Rattle.held.proofs.load as HeldLoad
-use Rattle.held.proofs.store as HeldStore
-use Rattle.held.proofs.remove as HeldRemove
-use Rattle.held.proofs.check as HeldCheck
-use Rattle.held.proofs.count as HeldCount
-use Rattle.held.proofs.lowest_free as HeldLowestFree
-use Rattle.held.proofs.pack as HeldPack
-use Rattle.held.proofs.unpack as HeldUnpack
-use Rattle.held.proofs.compare as HeldCompare
+use Rattle.held.specs.contracts.start as HeldStart
+use Rattle.held.proofs.start.Reads as HeldStartReads
+use Rattle.held.specs.contracts.add as HeldAdd
+use Rattle.held.proofs.add.Reads as HeldAddReads
+use Rattle.held.specs.contracts.load as HeldLoad
+use Rattle.held.proofs.load.Reads as HeldLoadReads
+use Rattle.held.specs.contracts.store as HeldStore
+use Rattle.held.proofs.store.Reads as HeldStoreReads
+use Rattle.held.specs.contracts.remove as HeldRemove
+use Rattle.held.proofs.remove.Reads as HeldRemoveReads
+use Rattle.held.specs.contracts.check as HeldCheck
+use Rattle.held.proofs.check.Reads as HeldCheckReads
+use Rattle.held.specs.contracts.count as HeldCount
+use Rattle.held.proofs.count.Reads as HeldCountReads
+use Rattle.held.specs.contracts.lowest_free as HeldLowestFree
+use Rattle.held.proofs.lowest_free.Reads as HeldLowestFreeReads
+use Rattle.held.specs.contracts.pack as HeldPack
+use Rattle.held.proofs.pack.Reads as HeldPackReads
+use Rattle.held.specs.contracts.unpack as HeldUnpack
+use Rattle.held.proofs.unpack.Reads as HeldUnpackReads
+use Rattle.held.specs.contracts.compare as HeldCompare
+use Rattle.held.proofs.compare.Reads as HeldCompareReads
 use Rattle.exports.specs.contracts.pintlecup_start as Start
 use Rattle.exports.specs.contracts.pintlecup_add as Add
 use Rattle.exports.specs.contracts.pintlecup_load as Load
 use Rattle.exports.specs.contracts.pintlecup_store as Store
 use Rattle.exports.specs.contracts.pintlecup_remove as Remove
 use Rattle.exports.specs.contracts.pintlecup_check as Check
-use Rattle.exports.proofs.pintlecup_look as Look
+use Rattle.exports.specs.contracts.pintlecup_look as Look
+use Rattle.exports.proofs.pintlecup_look.Reads as LookReads
 use Rattle.exports.specs.contracts.pintlecup_count as Count
 use Rattle.exports.specs.contracts.pintlecup_lowest_free as LowestFree
-use Rattle.exports.proofs.pintlecup_digest as Digest
-use Rattle.exports.proofs.pintlecup_hmac as Hmac
+use Rattle.exports.specs.contracts.pintlecup_digest as Digest
+use Rattle.exports.proofs.pintlecup_digest.Reads as DigestReads
+use Rattle.exports.specs.contracts.pintlecup_hmac as Hmac
+use Rattle.exports.proofs.pintlecup_hmac.Reads as HmacReads
 use Rattle.exports.specs.contracts.pintlecup_pack as Pack
 use Rattle.exports.specs.contracts.pintlecup_unpack as Unpack
 use Rattle.exports.specs.contracts.pintlecup_compare as Compare
@@ -57,29 +71,29 @@ module _ (T : Ended) where
 
 pub record Exported : Type 2 where
   -- by value
-  pub held_start : Tight HeldStart.ended HeldStart.Reads.Asked HeldStart.Reads.Learnt
-  pub held_add : Tight HeldAdd.ended HeldAdd.Reads.Asked HeldAdd.Reads.Learnt
-  pub held_load : Tight HeldLoad.ended HeldLoad.Reads.Asked HeldLoad.Reads.Learnt
-  pub held_store : Tight HeldStore.ended HeldStore.Reads.Asked HeldStore.Reads.Learnt
-  pub held_remove : Tight HeldRemove.ended HeldRemove.Reads.Asked HeldRemove.Reads.Learnt
-  pub held_check : Tight HeldCheck.ended HeldCheck.Reads.Asked HeldCheck.Reads.Learnt
-  pub held_count : Tight HeldCount.ended HeldCount.Reads.Asked HeldCount.Reads.Learnt
-  pub held_lowest_free : Tight HeldLowestFree.ended HeldLowestFree.Reads.Asked HeldLowestFree.Reads.Learnt
-  pub held_pack : Tight HeldPack.ended HeldPack.Reads.Asked HeldPack.Reads.Learnt
-  pub held_unpack : Tight HeldUnpack.ended HeldUnpack.Reads.Asked HeldUnpack.Reads.Learnt
-  pub held_compare : Tight HeldCompare.ended HeldCompare.Reads.Asked HeldCompare.Reads.Learnt
+  pub held_start : Tight HeldStart.ended HeldStartReads.Asked HeldStartReads.Learnt
+  pub held_add : Tight HeldAdd.ended HeldAddReads.Asked HeldAddReads.Learnt
+  pub held_load : Tight HeldLoad.ended HeldLoadReads.Asked HeldLoadReads.Learnt
+  pub held_store : Tight HeldStore.ended HeldStoreReads.Asked HeldStoreReads.Learnt
+  pub held_remove : Tight HeldRemove.ended HeldRemoveReads.Asked HeldRemoveReads.Learnt
+  pub held_check : Tight HeldCheck.ended HeldCheckReads.Asked HeldCheckReads.Learnt
+  pub held_count : Tight HeldCount.ended HeldCountReads.Asked HeldCountReads.Learnt
+  pub held_lowest_free : Tight HeldLowestFree.ended HeldLowestFreeReads.Asked HeldLowestFreeReads.Learnt
+  pub held_pack : Tight HeldPack.ended HeldPackReads.Asked HeldPackReads.Learnt
+  pub held_unpack : Tight HeldUnpack.ended HeldUnpackReads.Asked HeldUnpackReads.Learnt
+  pub held_compare : Tight HeldCompare.ended HeldCompareReads.Asked HeldCompareReads.Learnt
   -- under C names
-  pub start : TightLent Start.ended (λ M. Start.clauses {M = M})
-  pub add : TightLent Add.ended (λ M. Add.clauses {M = M})
-  pub load : TightLent Load.ended (λ M. Load.clauses {M = M})
-  pub store : TightLent Store.ended (λ M. Store.clauses {M = M})
-  pub remove : TightLent Remove.ended (λ M. Remove.clauses {M = M})
-  pub check : TightLent Check.ended (λ M. Check.clauses {M = M})
-  pub look : Tight Look.ended Look.Reads.Asked Look.Reads.Learnt
-  pub count : TightLent Count.ended (λ M. Count.clauses {M = M})
-  pub lowest_free : TightLent LowestFree.ended (λ M. LowestFree.clauses {M = M})
-  pub digest : Tight Digest.ended Digest.Reads.Asked Digest.Reads.Learnt
-  pub hmac : Tight Hmac.ended Hmac.Reads.Asked Hmac.Reads.Learnt
-  pub pack : TightLent Pack.ended (λ M. Pack.clauses {M = M})
-  pub unpack : TightLent Unpack.ended (λ M. Unpack.clauses {M = M})
-  pub compare : TightLent Compare.ended (λ M. Compare.clauses {M = M})
+  pub start : TightLent Start.ended (λ M 𝓤. Start.clauses {M = M} {𝓤 = 𝓤})
+  pub add : TightLent Add.ended (λ M 𝓤. Add.clauses {M = M} {𝓤 = 𝓤})
+  pub load : TightLent Load.ended (λ M 𝓤. Load.clauses {M = M} {𝓤 = 𝓤})
+  pub store : TightLent Store.ended (λ M 𝓤. Store.clauses {M = M} {𝓤 = 𝓤})
+  pub remove : TightLent Remove.ended (λ M 𝓤. Remove.clauses {M = M} {𝓤 = 𝓤})
+  pub check : TightLent Check.ended (λ M 𝓤. Check.clauses {M = M} {𝓤 = 𝓤})
+  pub look : Tight Look.ended LookReads.Asked LookReads.Learnt
+  pub count : TightLent Count.ended (λ M 𝓤. Count.clauses {M = M} {𝓤 = 𝓤})
+  pub lowest_free : TightLent LowestFree.ended (λ M 𝓤. LowestFree.clauses {M = M} {𝓤 = 𝓤})
+  pub digest : Tight Digest.ended DigestReads.Asked DigestReads.Learnt
+  pub hmac : Tight Hmac.ended HmacReads.Asked HmacReads.Learnt
+  pub pack : TightLent Pack.ended (λ M 𝓤. Pack.clauses {M = M} {𝓤 = 𝓤})
+  pub unpack : TightLent Unpack.ended (λ M 𝓤. Unpack.clauses {M = M} {𝓤 = 𝓤})
+  pub compare : TightLent Compare.ended (λ M 𝓤. Compare.clauses {M = M} {𝓤 = 𝓤})

@@ -1,3 +1,2 @@
 // No code: one outcome for each public function.
 #![tactic(auto)]
-

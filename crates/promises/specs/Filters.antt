@@ -1,6 +1,6 @@
--- 01, "The examples that are proved", 6 to 11: filter records, two more, and what is lawful though it is zero. Said of any functions p that pack and u that unpack.
+-- The examples that are proved, 6 to 11: filter records, two more, and what is lawful though it is zero. Said of any functions p that pack and u that unpack.
 -- Assumes nothing.
-use Rattle.std.specs.Prelude.{◌≡◌, List, [], ◌∷◌, ◌++◌, ℕ, ◌^◌, ◌<◌, ◌≤◌, length, take, set, replicate}
+use Rattle.std.specs.Prelude.{◌≡◌, List, [], ◌∷◌, ◌++◌, ℕ, ◌^◌, ◌<◌, length, take, set, replicate}
 use Rattle.refusal.specs.Refusal.{Filled, filled}
 use Rattle.filter.specs.Filter.{bytes_of, unpacked, zero_filter}
 use Rattle.filter.specs.Promises.{Within}

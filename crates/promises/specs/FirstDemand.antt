@@ -1,4 +1,4 @@
--- Demand 1. In our words: every call ends, for inputs of all sizes and for any state. What lies outside the limits is refused by its number, by a look with an
+-- The first demand: every call ends, for inputs of all sizes and for any state. What lies outside the limits is refused by its number, by a look with an
 -- empty part; any state given comes back equal, and no lent byte has changed.
 --
 -- That a call ends is proved of each function with its contract, and the contract asks nothing of its arguments. Keys, values, messages and the store of a look
@@ -17,21 +17,36 @@ use Rattle.state.specs.declared.State.{State}
 use Rattle.state.specs.declared.Verdict.{Verdict}
 use Rattle.state.specs.declared.Verdict.TheVariants.{Stamp}
 use Rattle.filter.specs.Promises.{Numbers}
-use Rattle.state.proofs.State.start as Start
-use Rattle.store.proofs.add as Add
-use Rattle.store.proofs.load as Load
-use Rattle.store.proofs.store as Store
-use Rattle.store.proofs.remove as Remove
-use Rattle.store.proofs.check as Check
-use Rattle.store.proofs.look as Look
-use Rattle.store.proofs.count as Count
-use Rattle.store.proofs.lowest_free as LowestFree
-use Rattle.sha256.proofs.digest as Digest
-use Rattle.hmac.proofs.mac as Mac
-use Rattle.filter.proofs.pack as Pack
-use Rattle.filter.proofs.unpack as Unpack
-use Rattle.going.proofs.compare as Compare
-use Rattle.session.proofs.run as Bench
+use Rattle.state.specs.contracts.State.start as Start
+use Rattle.state.proofs.State.start.Reads as StartReads
+use Rattle.store.specs.contracts.add as Add
+use Rattle.store.proofs.add.Reads as AddReads
+use Rattle.store.specs.contracts.load as Load
+use Rattle.store.proofs.load.Reads as LoadReads
+use Rattle.store.specs.contracts.store as Store
+use Rattle.store.proofs.store.Reads as StoreReads
+use Rattle.store.specs.contracts.remove as Remove
+use Rattle.store.proofs.remove.Reads as RemoveReads
+use Rattle.store.specs.contracts.check as Check
+use Rattle.store.proofs.check.Reads as CheckReads
+use Rattle.store.specs.contracts.look as Look
+use Rattle.store.proofs.look.Reads as LookReads
+use Rattle.store.specs.contracts.count as Count
+use Rattle.store.proofs.count.Reads as CountReads
+use Rattle.store.specs.contracts.lowest_free as LowestFree
+use Rattle.store.proofs.lowest_free.Reads as LowestFreeReads
+use Rattle.sha256.specs.contracts.digest as Digest
+use Rattle.sha256.proofs.digest.Reads as DigestReads
+use Rattle.hmac.specs.contracts.mac as Mac
+use Rattle.hmac.proofs.mac.Reads as MacReads
+use Rattle.filter.specs.contracts.pack as Pack
+use Rattle.filter.proofs.pack.Reads as PackReads
+use Rattle.filter.specs.contracts.unpack as Unpack
+use Rattle.filter.proofs.unpack.Reads as UnpackReads
+use Rattle.going.specs.contracts.compare as Compare
+use Rattle.going.proofs.compare.Reads as CompareReads
+use Rattle.session.specs.contracts.run as Bench
+use Rattle.session.proofs.run.Reads as BenchReads
 use Rattle.promises.specs.Library.{Library}
 
 -- a contract that holds of all arguments
@@ -40,21 +55,21 @@ OfAll T asked = (κs : Lfts T.signature.lifetimes) (a : Args T.signature κs) �
 
 -- what each call's contract asks of its arguments: nothing
 pub record Asks : Type 1 where
-  pub start : OfAll Start.ended Start.Reads.Asked
-  pub add : OfAll Add.ended Add.Reads.Asked
-  pub load : OfAll Load.ended Load.Reads.Asked
-  pub store : OfAll Store.ended Store.Reads.Asked
-  pub remove : OfAll Remove.ended Remove.Reads.Asked
-  pub check : OfAll Check.ended Check.Reads.Asked
-  pub look : OfAll Look.ended Look.Reads.Asked
-  pub count : OfAll Count.ended Count.Reads.Asked
-  pub lowest_free : OfAll LowestFree.ended LowestFree.Reads.Asked
-  pub digest : OfAll Digest.ended Digest.Reads.Asked
-  pub mac : OfAll Mac.ended Mac.Reads.Asked
-  pub pack : OfAll Pack.ended Pack.Reads.Asked
-  pub unpack : OfAll Unpack.ended Unpack.Reads.Asked
-  pub compare : OfAll Compare.ended Compare.Reads.Asked
-  pub bench : OfAll Bench.ended Bench.Reads.Asked
+  pub start : OfAll Start.ended StartReads.Asked
+  pub add : OfAll Add.ended AddReads.Asked
+  pub load : OfAll Load.ended LoadReads.Asked
+  pub store : OfAll Store.ended StoreReads.Asked
+  pub remove : OfAll Remove.ended RemoveReads.Asked
+  pub check : OfAll Check.ended CheckReads.Asked
+  pub look : OfAll Look.ended LookReads.Asked
+  pub count : OfAll Count.ended CountReads.Asked
+  pub lowest_free : OfAll LowestFree.ended LowestFreeReads.Asked
+  pub digest : OfAll Digest.ended DigestReads.Asked
+  pub mac : OfAll Mac.ended MacReads.Asked
+  pub pack : OfAll Pack.ended PackReads.Asked
+  pub unpack : OfAll Unpack.ended UnpackReads.Asked
+  pub compare : OfAll Compare.ended CompareReads.Asked
+  pub bench : OfAll Bench.ended BenchReads.Asked
 
 -- every address is in use
 abbrev pub AllInUse : State → Type 0
