@@ -2,7 +2,7 @@
 
 A public function is what another crate can name: the toolchain writes it into the proved library under its whole path, modules and type
 included. Its contract must tell something; `Outcomes` or `Exported` must have one entry of it, in one of two forms (one is of what the toolchain
-reads of the contract, the other of the contract's clauses); and the page must have one row that begins with its path, names that entry, and has
+reads of the contract, the other of the contract's clauses; look, whose result is a part of the lent store, has two fields of its own); and the page must have one row that begins with its path, names that entry, and has
 two wrong answers or more. Nothing in a static library can be named by another crate: each of its functions must have, word for word, the signature
 and the clauses of a function of one library, and each of that library's functions must be there. Runs after the proofs. Prints what does not hold;
 exit status 1 where something does not.
@@ -20,6 +20,14 @@ RECORDS = {"Outcomes": "Outcomes : Type 1", "Exports": "Exported : Type 2"}
 # of what the toolchain reads of a contract; and of the clauses, of which alone a function that is lent a struct may be proved
 TIGHT = "Tight {0}.ended {0}Reads.Asked {0}Reads.Learnt"
 LENT = "TightLent {0}.ended (λ M 𝓤. {0}.clauses {{M = M}} {{𝓤 = 𝓤}})"
+
+# whose result is a part of the lent store
+PARTS = ("store::look", "entries::value_part")
+PART = [
+    "(κs : Lfts 1) (a : Args {0}.signature κs) (r r' : Res {0}.signature κs) (e e' : AtExit {0}.ended κs)"
+    " → {0}Reads.Learnt κs a r e → {0}Reads.Learnt κs a r' e' → (r.now ≡ r'.now) × (r.ref_ptr ≡ r'.ref_ptr)",
+    "(κs : Lfts 1) (a : Args {0}.signature κs) → {0}Reads.Asked κs a",
+]
 
 
 def heads(crate):
@@ -88,8 +96,13 @@ def main():
         names, fields = held[file]
         contract, reads = ".".join((crate, "specs.contracts", *inner)), ".".join((crate, "proofs", *inner, "Reads"))
         short = [short for short, whole in names.items() if whole == contract]
-        forms = [LENT.format(one) for one in short] + [TIGHT.format(one) for one in short if names.get(f"{one}Reads") == reads]
-        mine = [name for name, of in fields if of in forms]
+        read = [one for one in short if names.get(f"{one}Reads") == reads]
+        if path in PARTS:
+            mine = [name for one in read for form in PART for name, of in fields if of == form.format(one)]
+            mine = mine[:1] if len(mine) == len(PART) else []
+        else:
+            forms = [LENT.format(one) for one in short] + [TIGHT.format(one) for one in read]
+            mine = [name for name, of in fields if of in forms]
         row = [row for row in rows if row[0] == path]
         if tells is False:
             wrong.append(f"{path} has no contract, or its library is not proved")

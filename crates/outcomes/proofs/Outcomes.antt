@@ -1,8 +1,6 @@
 -- A contract says what is seen of an outcome, and from what is seen the outcome is made again. Assumes nothing.
 use mathlib.Core.Path.{◌≡◌, refl, sym, ap, ◌∙◌}
-use mathlib.Core.List.{List}
 use Prim.Native.Nat.{ℕ}
-use denote.Bor.{Bor}
 use Rattle.refusal.specs.Refusal.{Filled}
 use Rattle.state.specs.TakePut.{Seen}
 use Rattle.state.specs.declared.Moved.{Moved}
@@ -19,10 +17,6 @@ again result lasts p q = (ap result (p ∙ sym q), ap lasts (p ∙ sym q))
 -- a function that writes nothing
 pub plain : {R L : Type 0} {y r r' : R} {l : L} → r ≡ y → r' ≡ y → (r ≡ r') × (l ≡ l)
 plain p q = (p ∙ sym q, refl)
-
--- a part of what is lent
-part : {r r' : Bor (List ℕ)} → r.now ≡ r'.now → r.ref_ptr ≡ r'.ref_ptr → r ≡ r'
-part p q = λ i. record { ref_ptr = q i; now = p i }
 
 abbrev moved : Seen → Moved
 moved y = record { number = y.number; state = y.state }
@@ -47,7 +41,6 @@ outcomes = record {
   store = record { any = λ κs a. tt; one = λ κs a r r' l l'. again moved (λ y. (tt, (y.store, (tt, (tt, tt))))) };
   remove = record { any = λ κs a. tt; one = λ κs a r r' l l'. again moved (λ y. (tt, (y.store, (tt, tt)))) };
   check = record { any = λ κs a. tt; one = λ κs a r r' l l'. again checked (λ y. (tt, (y.store, tt))) };
-  look = record { any = λ κs a. tt; one = λ κs a r r' l l' p q. (part (p.0 ∙ sym q.0) (p.1 ∙ sym q.1), refl) };
   count = record { any = λ κs a. tt; one = λ κs a r r' l l'. plain };
   lowest_free = record { any = λ κs a. tt; one = λ κs a r r' l l'. plain };
   digest = record { any = λ κs a. tt; one = λ κs a r r' l l'. again number (λ y. (tt, (y.out, tt))) };
@@ -80,7 +73,6 @@ outcomes = record {
   bytes_2 = record { any = λ κs a. tt; one = λ κs a r r' l l'. plain };
   number_2 = record { any = λ κs a. tt; one = λ κs a r r' l l'. plain };
   cell = record { any = λ κs a. tt; one = λ κs a r r' l l'. plain };
-  value_part = record { any = λ κs a. tt; one = λ κs a r r' l l' p q. (part (p.0 ∙ sym q.0) (p.1 ∙ sym q.1), refl) };
   stamp_at = record { any = λ κs a. tt; one = λ κs a r r' l l'. plain };
   write = record { any = λ κs a. tt; one = λ κs a r r' l l'. again (λ y. tt) (λ y. (y, (tt, (tt, (tt, tt))))) };
   message = record { any = λ κs a. tt; one = λ κs a r r' l l'. plain };
@@ -101,4 +93,8 @@ outcomes = record {
   say = record { any = λ κs a. tt; one = λ κs a r r' l l'. again place (λ y. (y.bytes, (tt, (tt, tt)))) };
   command = record { any = λ κs a. tt; one = λ κs a r r' l l'. again after (λ y. (tt, (y.store, (tt, tt)))) };
   run = record { any = λ κs a. tt; one = λ κs a r r' l l'. again place (λ y. (tt, (y.bytes, tt))) };
+  look_any = λ κs a. tt;
+  look = λ κs a r r' e e' p q. (p.0 ∙ sym q.0, p.1 ∙ sym q.1);
+  value_part_any = λ κs a. tt;
+  value_part = λ κs a r r' e e' p q. (p.0 ∙ sym q.0, p.1 ∙ sym q.1);
 }

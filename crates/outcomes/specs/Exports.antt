@@ -1,4 +1,4 @@
--- How tight each contract is, of the calls under C names, and of those by value that do their work. Of a function that is lent a struct the entry speaks of the
+-- 01, "How tight each contract is", of the calls under C names, and of those by value that do their work. Of a function that is lent a struct the entry speaks of the
 -- clauses in the toolchain's program logic: there, in every model, they ask nothing and tell one plain claim, and any two outcomes that the claim admits are
 -- equal. Assumes nothing.
 use Rattle.std.specs.Prelude.{◌≡◌}

@@ -1,7 +1,6 @@
--- How tight each contract is: no public function asks anything of its arguments, and any two outcomes that its contract admits are equal.
+-- 01, "How tight each contract is": no public function asks anything of its arguments, and any two outcomes that its contract admits are equal.
 -- Of a function's contract, as the toolchain reads it, `Asked` is what a caller must show of the arguments, and `Learnt` what it may then rely on, of the
--- arguments, the result and the parameters at the end of the call. So each entry speaks of the contract itself. A part of what is lent, as look gives it, is
--- its bytes and the place where it lies. Assumes nothing.
+-- arguments, the result and the parameters at the end of the call. So each entry speaks of the contract itself. Assumes nothing.
 use Rattle.std.specs.Prelude.{◌≡◌}
 use contract.Lifetimes.{Lfts}
 use denote.Triple.Entry.{Args, Res}
@@ -145,7 +144,6 @@ pub record Outcomes : Type 1 where
   pub store : Tight Store.ended StoreReads.Asked StoreReads.Learnt
   pub remove : Tight Remove.ended RemoveReads.Asked RemoveReads.Learnt
   pub check : Tight Check.ended CheckReads.Asked CheckReads.Learnt
-  pub look : Tight Look.ended LookReads.Asked LookReads.Learnt
   pub count : Tight Count.ended CountReads.Asked CountReads.Learnt
   pub lowest_free : Tight LowestFree.ended LowestFreeReads.Asked LowestFreeReads.Learnt
   pub digest : Tight Digest.ended DigestReads.Asked DigestReads.Learnt
@@ -179,7 +177,6 @@ pub record Outcomes : Type 1 where
   pub bytes_2 : Tight Bytes2.ended Bytes2Reads.Asked Bytes2Reads.Learnt
   pub number_2 : Tight Number2.ended Number2Reads.Asked Number2Reads.Learnt
   pub cell : Tight Cell.ended CellReads.Asked CellReads.Learnt
-  pub value_part : Tight ValuePart.ended ValuePartReads.Asked ValuePartReads.Learnt
   pub stamp_at : Tight StampAt.ended StampAtReads.Asked StampAtReads.Learnt
   pub write : Tight Write.ended WriteReads.Asked WriteReads.Learnt
   pub message : Tight Message.ended MessageReads.Asked MessageReads.Learnt
@@ -201,3 +198,11 @@ pub record Outcomes : Type 1 where
   pub say : Tight Say.ended SayReads.Asked SayReads.Learnt
   pub command : Tight Command.ended CommandReads.Asked CommandReads.Learnt
   pub run : Tight Run.ended RunReads.Asked RunReads.Learnt
+  -- look can write nothing, and hands back a part of the lent store: its bytes, and the place where it lies
+  pub look_any : (κs : Lfts 1) (a : Args Look.signature κs) → LookReads.Asked κs a
+  pub look : (κs : Lfts 1) (a : Args Look.signature κs) (r r' : Res Look.signature κs) (e e' : AtExit Look.ended κs)
+      → LookReads.Learnt κs a r e → LookReads.Learnt κs a r' e' → (r.now ≡ r'.now) × (r.ref_ptr ≡ r'.ref_ptr)
+  -- and so does the part of the store that is a value
+  pub value_part_any : (κs : Lfts 1) (a : Args ValuePart.signature κs) → ValuePartReads.Asked κs a
+  pub value_part : (κs : Lfts 1) (a : Args ValuePart.signature κs) (r r' : Res ValuePart.signature κs) (e e' : AtExit ValuePart.ended κs)
+      → ValuePartReads.Learnt κs a r e → ValuePartReads.Learnt κs a r' e' → (r.now ≡ r'.now) × (r.ref_ptr ≡ r'.ref_ptr)

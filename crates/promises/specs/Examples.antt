@@ -1,4 +1,4 @@
--- The examples that are proved: all fourteen under one claim, with more of filter records, checks and key serials. Each speaks of what the library's calls give, and holds for all that it leaves open.
+-- 01, "The examples that are proved": all fourteen under one claim, with more of filter records, checks and key serials. Each speaks of what the library's calls give, and holds for all that it leaves open.
 -- Assumes nothing.
 use Rattle.std.specs.Prelude.{◌≡◌, true, false, List, [], ◌∷◌, ◌++◌, ℕ, ◌+◌, ◌-◌, ◌^◌, ◌<◌, length, take, drop, replicate}
 use Rattle.octets.specs.Layout.{number, bytes}

@@ -1,4 +1,4 @@
--- The examples that are proved, 6 to 11: filter records, two more, and what is lawful though it is zero. Said of any functions p that pack and u that unpack.
+-- 01, "The examples that are proved", 6 to 11: filter records, two more, and what is lawful though it is zero. Said of any functions p that pack and u that unpack.
 -- Assumes nothing.
 use Rattle.std.specs.Prelude.{◌≡◌, List, [], ◌∷◌, ◌++◌, ℕ, ◌^◌, ◌<◌, length, take, set, replicate}
 use Rattle.refusal.specs.Refusal.{Filled, filled}

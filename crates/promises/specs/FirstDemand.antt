@@ -1,4 +1,4 @@
--- The first demand: every call ends, for inputs of all sizes and for any state. What lies outside the limits is refused by its number, by a look with an
+-- Demand 1. In our words: every call ends, for inputs of all sizes and for any state. What lies outside the limits is refused by its number, by a look with an
 -- empty part; any state given comes back equal, and no lent byte has changed.
 --
 -- That a call ends is proved of each function with its contract, and the contract asks nothing of its arguments. Keys, values, messages and the store of a look

@@ -1,8 +1,8 @@
--- The second demand: the digest is FIPS 180-4's SHA-256, the keyed tag is RFC 2104's HMAC, and the multiset hash is the source's definition 4.4 with no
+-- Demand 2. In our words: the digest is FIPS 180-4's SHA-256, the keyed tag is RFC 2104's HMAC, and the multiset hash is the source's definition 4.4 with no
 -- nonce. A check accepts exactly when both hashes agree and no stamp ran ahead of the clock. A lawful filter record has one form of 28 bytes, and 28 lawful
 -- bytes give one filter record.
 --
--- A later request: a check that rejects names the first take of its period whose stamp ran ahead of the clock, and the tags where none did. From a
+-- A later request, in our words: a check that rejects names the first take of its period whose stamp ran ahead of the clock, and the tags where none did. From a
 -- start the numbers of elements never differ at a check.
 --
 -- Another: key serials go round, in RFC 1982's order with 32 bits. A comparison of two filter records says first whether the member is another; then 16 where the

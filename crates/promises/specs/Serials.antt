@@ -1,4 +1,4 @@
--- The examples that are proved, of key serials. Said of any function c that compares the filter record held with the one offered.
+-- 01, "The examples that are proved": key serials. Said of any function c that compares the filter record held with the one offered.
 -- Assumes nothing.
 use Rattle.std.specs.Prelude.{◌≡◌, ◌≢◌, ℕ, ◌^◌, ◌<◌, pos, neg_ℤ}
 use Rattle.std.proofs.Math.Option.{some}

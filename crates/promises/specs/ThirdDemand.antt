@@ -1,4 +1,4 @@
--- The third demand: take any run of calls after a start, each given the state that the one before gave back, while the store may hold other bytes at
+-- Demand 3. In our words: take any run of calls after a start, each given the state that the one before gave back, while the store may hold other bytes at
 -- each call. If the last call is a check that accepts, every load answered in the run gave the value last added or stored at its address; or else at some
 -- accepted check the entries put in its period, no two alike, and the entries taken in it are different multisets with one hash. And if the cells in use
 -- reach each call unaltered, every check that is not refused accepts.
