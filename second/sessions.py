@@ -18,6 +18,7 @@ import bench
 
 HERE = os.path.dirname(os.path.abspath(__file__))
 PROGRAM = os.path.join(HERE, "run-bench")
+BUILD = os.path.join(HERE, "build-bench")
 FOUND = os.path.join(HERE, "..", "target", "difference.session")
 
 EDGE_ADDRESSES = [0, 1, 511, 1022, 1023, 1024, 1025, 32768, 65535]
@@ -440,6 +441,8 @@ def failing():
 def main():
     count = int(sys.argv[1]) if len(sys.argv) > 1 else 300
     seed = sys.argv[2] if len(sys.argv) > 2 else "1"
+    # what is told while it is built is no answer of a session
+    subprocess.run([BUILD], check=True)
     with ThreadPoolExecutor(os.cpu_count()) as pool:
         good = failing() and agree(pool, ["fixed session %d" % i for i in range(len(FIXED))], FIXED)
         for done in range(0, count, 200):
