@@ -1,42 +1,58 @@
-"""Holds each must-fail edit to the place where it must fail, by the logs that the toolchain leaves.
+"""Holds each must-fail edit to the place where it must fail: tries each one in a copy of the crates, and reads what the check says.
 
-An edit file has one wrong function or definition, or several that are checked at once. Each has a label, and the file of the proof that it must
-break; of a wrong definition also the declaration there:
+An edit file has one wrong function or definition, or several that are checked at once. Each has a label, and what must fail. Of a wrong function
+that is its proof, named as the folder of its files, whether or not it has files. Of a wrong definition it is a declaration, named after its file:
+`proofs/FILE.antt NAME`. It may also be a goal of a function's proof, `proofs/FUNCTION GOAL`.
 
     wrong: LABEL
-    fails: proofs/FUNCTION/Proof.antt
+    fails: proofs/FUNCTION
     file: src/lib.rt
     old: TEXT
     new: TEXT
 
-The toolchain tells only that the whole was refused. Here what stands under `fails:` must have an error of its own: one which says that a fact
-fails (see `FACT`), and not that the proof no longer fits the code, as it may of a right program too, nor that something it rests on failed.
-(A function whose proof the toolchain makes has no such file; its failure is told under the name that the file would have. A right program
-that is written another way can be refused by a fact too, so what an edit's words say is for the reader to see.)
+`rt ci` tells only that the whole was refused. Here what stands under `fails:` must fail by itself, and by a fact: an error says that a fact fails (see
+`FACT`), or a goal is left that the toolchain's own search does not prove. That the proof no longer fits the code, as it may of a right program too, is no
+fact; nor is it one that a goal is left whose answer is lost, since a test in the code has another name now, unless the check knows values at which the goal
+is false. (A right program that is written another way can be refused by a fact too, so what an edit's words say is for the reader to see.)
 
 - A wrong function is one change of the body of the very function whose proof it names, and has the same locals: nothing is renamed or moved. No
-  two of a file are of the same function, and nothing else fails. A function's proof rests on its own body and on the contracts of what it calls,
-  so the other wrong bodies have no part in it. (A wrong constant has a file of its own.)
+  two of a file are of the same function, and nothing else fails by itself. A function's proof rests on its own body and on the contracts of what it
+  calls, so the other wrong bodies have no part in it. (A wrong constant has a file of its own.)
 - Of several wrong definitions in a file, the declaration that must fail can see its own change and none of the others: they are in no definition
   that it names or unfolds, nor in the statement of a law that it cites, nor in what these name (`reads` of texts.py).
 
-Prints what does not hold; exit status 1 where something does not, or where there is no edit.
+    python3 .ci/edits.py [CRATE..]
+
+As many checks run side by side as there are processors, or RT_JOBS. What each said is left in target/edits/CRATE/EDIT.log. Prints what does not hold; exit
+status 1 where something does not, or where there is no edit.
 """
+import collections
+import concurrent.futures
 import dataclasses
+import os
 import pathlib
+import queue
 import re
+import shutil
+import subprocess
 import sys
+import tempfile
 
 from texts import declarations, reads
 
 TOP = pathlib.Path(__file__).resolve().parent.parent
+LOGS = TOP / "target" / "edits"
 # two types, sides or values differ; `search`, `omega`, `rw`, `simp` or `cc` does not reach its goal
 FACT = re.compile(
     r"the two (types|sides|values) (?!are identical)|expected type |"
     r"`(search|omega)`: (no proof of|the goal|the part) |give a proof of that |list the missing equation "
 )
+# what the proof names is gone
+LOST = re.compile(r" has no field |that can be named from here|is not in scope")
 # what a proof takes for a loop's invariant or measure: an error there says that the loop has other variables
-TAKEN = ("Inv-", "μ-")
+TAKEN = ("invariant-", "decreases-")
+# the files of a function's proof
+FILES = ("Answers.antt", "Invariants.antt", "Proof.antt")
 
 
 @dataclasses.dataclass
@@ -77,21 +93,95 @@ def wrongs(edit):
     return found
 
 
+def edits(crate):
+    return sorted((crate / "must-fail").glob("*.edit"))
+
+
 def labels(crate):
     """The labels of a crate's wrong functions and definitions."""
-    return [one.label for edit in sorted((crate / "must-fail").glob("*.edit")) for one in wrongs(edit)]
+    return [one.label for edit in edits(crate) for one in wrongs(edit)]
 
 
-def own_errors(where):
-    """The files that have an error of their own in the log of an edit, and with them the declarations that have one, as FILE NAME."""
-    found = set()
-    for line in (where / ".log").read_text().splitlines():
-        error = re.match(r"(\S+?):\d+:\d+: error: `([^`]*)`: (.*)", line)
-        made = re.match(r"fn \S+: no proof: expected `([^`]*)` in (\S+); `\w+` does not close ", line)
-        if made or error and FACT.search(error[3]) and not error[2].startswith(TAKEN):
-            file, name = (made[2], made[1]) if made else (error[1], error[2])
-            file = file.removeprefix(f"{where}/")
-            found |= {file, f"{file} {name}"}
+def changed(crate, found):
+    """What an edit makes of a crate's files, by file; nothing where an old text is not there once at its turn."""
+    texts = {}
+    for file, old, new in (change for one in found for change in one.changes):
+        text = texts[file] if file in texts else (crate / file).read_text()
+        if text.count(old) != 1:
+            return {}
+        texts[file] = text.replace(old, new)
+    return texts
+
+
+def check(crate):
+    """What a check of a crate says, and whether it proves the crate: None where it does not tell."""
+    said = ""
+    # a second time where it was killed, say for memory
+    for _ in range(2):
+        ran = subprocess.run(
+            ["rt", "check", "--jobs", "1"], cwd=crate, stdin=subprocess.DEVNULL, stdout=subprocess.PIPE, stderr=subprocess.STDOUT, text=True, errors="replace"
+        )
+        said = ran.stdout
+        if ran.returncode == 0 and re.search(r"(?m)^logic=proved ", said):
+            return said, True
+        if ran.returncode == 1 and re.search(r"(?m)^logic=not-proved$", said):
+            return said, False
+    return said, None
+
+
+def tries(name, trees):
+    """What the check says of a crate with each of its edits, by edit, in one of the trees; None where it refuses the crate as it stands."""
+    tree, crate, said = trees.get(), TOP / "crates" / name, {}
+    try:
+        here = tree / "crates" / name
+        # the edits begin with what this check keeps
+        if not check(here)[1]:
+            return None
+        for edit in edits(crate):
+            texts = changed(crate, wrongs(edit))
+            for file, text in texts.items():
+                (here / file).write_text(text)
+            said[edit] = check(here) if texts else ("", None)
+            for file in texts:
+                shutil.copyfile(crate / file, here / file)
+            log = LOGS / name / f"{edit.stem}.log"
+            log.parent.mkdir(parents=True, exist_ok=True)
+            log.write_text(said[edit][0])
+        return said
+    finally:
+        trees.put(tree)
+
+
+def refused(said):
+    """What a check refuses by itself, not for what it rests on: by the proof of a function or a file, its goals or declarations, and whether by a fact."""
+    # where two types are the same as printed, the next line tells how they differ
+    lines = re.sub(r"(are identical .*)\n  ", r"\1; ", said).splitlines()
+    verdicts = [re.match(r"(?:fn|struct|enum) \w+::(\S+): (.*)", line) for line in lines]
+    functions = {"proofs/" + one[1].replace("::", "/") for one in verdicts if one}
+    found, lost, left = collections.defaultdict(dict), set(), []
+
+    def fails(place, name, fact):
+        found[place][name] = found[place].get(name, False) or fact
+
+    for line, verdict in zip(lines, verdicts):
+        error = re.match(r"(?:\./)?(\S+?):\d+:\d+: error: (?:`([^`]*)`: )?(.*)", line)
+        goal = re.match(r"note: src/\S+: it is not proved that .*?\(`([^`]*)`\)(.*)", line)
+        if error and (error[2] or not re.match(r"\d+ declarations? that depends? on ", error[3])):
+            folder, _, file = error[1].rpartition("/")
+            place = folder if folder in functions and file in FILES else error[1]
+            name = error[2] or ""
+            if LOST.search(error[3]):
+                lost.add(place)
+            fails(place, name, bool(FACT.search(error[3])) and not name.startswith(TAKEN))
+        elif goal:
+            left.append((goal[1], "at which this goal is false" in goal[2]))
+        elif verdict:
+            place = "proofs/" + verdict[1].replace("::", "/")
+            for name, is_false in left:
+                fails(place, name, is_false or place not in lost)
+            if verdict[2] != "proved" and "it calls " not in verdict[2] and place not in found:
+                fails(place, "", False)
+            left = []
     return found
 
 
@@ -104,7 +194,7 @@ def proof_of(crate, file, text):
     for one in re.finditer(r"(?ms)^( *)[^\n]*\bfn (\w+)\b.*?^\1\{\n(.*?)^\1\}$", source):
         if text in one[3]:
             types = re.findall(r"(?m)^impl (\w+)", source[: one.start()])[-1:] if one[1] else []
-            found.append("/".join([*folders, *types, one[2], "Proof.antt"]))
+            found.append("/".join([*folders, *types, one[2]]))
     return found[0] if len(found) == 1 and source.count(text) == 1 else None
 
 
@@ -112,7 +202,7 @@ def of_functions(crate, found, failing):
     """What does not hold of a file's wrong functions."""
     named = [one.fails for one in found]
     said = [f"two of them name {name}" for name in sorted(set(named)) if named.count(name) > 1]
-    said += [f"{name} fails too, and none of them names it" for name in sorted(failing - set(named)) if " " not in name]
+    said += [f"{place} fails too, and none of them names it" for place in sorted(set(failing) - set(named))]
     for one in found:
         (file, old, new), *more = one.changes
         if more or old.count("let ") != new.count("let "):
@@ -134,40 +224,62 @@ def of_definitions(crate, found):
         others = [other.label for other in found if other is not one and any(old in text for _, old, _ in other.changes)]
         if others:
             said.append(f"{one.label}: {name} can see what {', '.join(others)} changes: give it a file of its own")
-        if file.endswith("/Proof.antt") or not all(old in text for _, old, _ in one.changes):
+        if not file.endswith(".antt") or not all(old in text for _, old, _ in one.changes):
             said.append(f"{one.label}: the declarations do not tell that {name} sees its change: give it a file of its own")
     return said
 
 
-def faults(crate, edit):
-    """What does not hold of an edit file."""
+def faults(crate, edit, said, proved):
+    """What does not hold of an edit file, by what the check said with it."""
     found = wrongs(edit)
-    where = TOP / "target" / "must-fail" / crate.name / edit.stem
-    if not (where / ".log").exists():
-        return ["it was not tried"]
     if not found or not all(one.label and one.fails and one.changes for one in found):
         return ["it lacks a label, what must fail, or a change"]
     if not all(file.startswith(("src/", "specs/")) for one in found for file, _, _ in one.changes):
         return ["it changes a proof"]
     if len({one.of_code() for one in found}) > 1:
         return ["it has both wrong functions and wrong definitions"]
-    failing = own_errors(where)
-    said = [f"{one.label}: no error of its own in {one.fails}, but in {sorted(failing)}" for one in found if one.fails not in failing]
+    if not changed(crate, found):
+        return ["an old text is not there once"]
+    if proved is not False:
+        return ["it is proved" if proved else "the check does not tell"]
+    failing = refused(said)
+    said = [f"{place} cannot be read" for place in failing if place.startswith(("src/", "specs/"))]
+    for one in found:
+        place, _, name = one.fails.partition(" ")
+        facts = [fact for goal, fact in failing.get(place, {}).items() if name in ("", goal)]
+        if not any(facts):
+            said.append(f"{one.label}: {one.fails} {'fails, but not by a fact' if facts else 'does not fail'}: {dict(failing)}")
     return said + (of_functions(crate, found, failing) if found[0].of_code() else of_definitions(crate, found))
 
 
-def main():
-    count = 0
-    wrong = []
-    for crate in sorted((TOP / "crates").iterdir()):
-        here = labels(crate)
-        count += len(here)
+def main(names):
+    crates = [crate for crate in sorted((TOP / "crates").iterdir()) if edits(crate) and (not names or crate.name in names)]
+    count = sum(len(labels(crate)) for crate in crates)
+    number = int(os.environ.get("RT_JOBS") or len(os.sched_getaffinity(0)))
+    wrong, trees = [], queue.Queue()
+    shutil.rmtree(LOGS, ignore_errors=True)
+    # outside the repository, where no check of it meets these files
+    with tempfile.TemporaryDirectory(prefix="edits-") as room:
+        for place in range(number):
+            tree = pathlib.Path(room) / str(place)
+            shutil.copytree(TOP / "crates", tree / "crates", ignore=shutil.ignore_patterns("out", "must-fail"))
+            for file in ("crates.txt", "HANDLES"):
+                if (TOP / file).exists():
+                    shutil.copyfile(TOP / file, tree / file)
+            trees.put(tree)
+        with concurrent.futures.ThreadPoolExecutor(number) as pool:
+            # those with most to try first
+            longest = sorted(crates, key=lambda crate: -len(labels(crate)))
+            tried = {crate: pool.submit(tries, crate.name, trees) for crate in longest}
+    for crate in crates:
+        here, said = labels(crate), tried[crate].result()
         wrong += [f"{crate.name}: two are called {label}" for label in sorted(set(here)) if here.count(label) > 1]
-        for edit in sorted((crate / "must-fail").glob("*.edit")):
-            wrong += [f"{crate.name}/{edit.name}: {said}" for said in faults(crate, edit)]
+        wrong += [f"{crate.name}: it is not proved as it stands"] if said is None else []
+        for edit, (text, proved) in (said or {}).items():
+            wrong += [f"{crate.name}/{edit.name}: {one}" for one in faults(crate, edit, text, proved)]
     print("\n".join(wrong) if wrong else f"{count} wrong functions and definitions, each refused where it must be")
     return 1 if wrong or not count else 0
 
 
 if __name__ == "__main__":
-    sys.exit(main())
+    sys.exit(main(sys.argv[1:]))
