@@ -1,6 +1,6 @@
--- 01, "How tight each contract is", of the calls under C names, and of those by value that do their work. Of a function that is lent a struct the entry speaks of the
--- clauses in the toolchain's program logic: there, in every model, they ask nothing and tell one plain claim, and any two outcomes that the claim admits are
--- equal. Assumes nothing.
+-- 01, "How tight each contract is", of the functions of `exports`, each of which `exports_c` calls under its C name, with the same contract, and of those by value
+-- that do their work. Of a function that is lent a struct the entry speaks of the clauses in the toolchain's program logic: there, in every model, they ask
+-- nothing and tell one plain claim, and any two outcomes that the claim admits are equal. Assumes nothing.
 use Rattle.std.specs.Prelude.{◌≡◌}
 use seplogic.Ra.Ura.{Ura}
 use base.Logic.{SProp, emp}

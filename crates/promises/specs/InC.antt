@@ -1,6 +1,6 @@
--- The tie of the calls under C names. Of a function that is lent a struct it speaks of the clauses in the toolchain's program logic: there, in every model, what
--- they ensure is a plain claim (`fact`), and here is which: that what the caller holds after the call stands for what the library `l` gives. The answers' numbers
--- are in `held/specs/Answers.antt`. Assumes nothing.
+-- The tie of the calls under C names: of the functions of `exports`, each of which `exports_c` calls under its C name, with the same contract. Of a function that
+-- is lent a struct it speaks of the clauses in the toolchain's program logic: there, in every model, what they ensure is a plain claim (`fact`), and here is
+-- which: that what the caller holds after the call stands for what the library `l` gives. The answers' numbers are in `held/specs/Answers.antt`. Assumes nothing.
 use Rattle.std.specs.Prelude.{◌≡◌, [], ◌⊎◌, ◌≢◌, ◌*◌, ◌<◌, length}
 use seplogic.Ra.Ura.{Ura}
 use base.Logic.{SProp}
