@@ -42,10 +42,10 @@ from texts import declarations, reads
 
 TOP = pathlib.Path(__file__).resolve().parent.parent
 LOGS = TOP / "target" / "edits"
-# two types, sides or values differ; `search`, `omega`, `rw`, `simp` or `cc` does not reach its goal
+# two types, sides or values differ; `search`, `omega`, `grind`, `rw`, `simp` or `cc` does not reach its goal
 FACT = re.compile(
-    r"the two (types|sides|values) (?!are identical)|expected type |"
-    r"`(search|omega)`: (no proof of|the goal|the part) |give a proof of that |list the missing equation "
+    r"the two (types|sides|values) (?!are identical)|expected type | ≟ .* does not hold |"
+    r"`(search|omega|grind)`: (no proof of|the goal|the part) |give a proof of that |list the missing equation "
 )
 # what the proof names is gone
 LOST = re.compile(r" has no field |that can be named from here|is not in scope")
@@ -154,11 +154,11 @@ def tries(name, trees):
 
 def refused(said):
     """What a check refuses by itself, not for what it rests on: by the proof of a function or a file, its goals or declarations, and whether by a fact."""
-    # where two types are the same as printed, the next line tells how they differ
-    lines = re.sub(r"(are identical .*)\n  ", r"\1; ", said).splitlines()
+    # where two types are the same as printed, the next line tells how they differ; two sides that do not agree have a line each
+    lines = re.sub(r"(are identical .*)\n  |\n  (?=≟ )|(?<=`)\n  (?=does not hold )", r"\1 ", said).splitlines()
     verdicts = [re.match(r"(?:fn|struct|enum) \w+::(\S+): (.*)", line) for line in lines]
     functions = {"proofs/" + one[1].replace("::", "/") for one in verdicts if one}
-    found, lost, left = collections.defaultdict(dict), set(), []
+    found, lost, rests, left = collections.defaultdict(dict), set(), set(), []
 
     def fails(place, name, fact):
         found[place][name] = found[place].get(name, False) or fact
@@ -166,20 +166,23 @@ def refused(said):
     for line, verdict in zip(lines, verdicts):
         error = re.match(r"(?:\./)?(\S+?):\d+:\d+: error: (?:`([^`]*)`: )?(.*)", line)
         goal = re.match(r"note: src/\S+: it is not proved that .*?\(`([^`]*)`\)(.*)", line)
-        if error and (error[2] or not re.match(r"\d+ declarations? that depends? on ", error[3])):
-            folder, _, file = error[1].rpartition("/")
-            place = folder if folder in functions and file in FILES else error[1]
-            name = error[2] or ""
-            if LOST.search(error[3]):
+        if error:
+            file, name, what = error[1], error[2] or "", error[3]
+            folder, _, last = file.rpartition("/")
+            place = folder if folder in functions and last in FILES else file
+            if not name and re.match(r"\d+ declarations? that depends? on ", what):
+                rests.add(place)
+                continue
+            if LOST.search(what):
                 lost.add(place)
-            fails(place, name, bool(FACT.search(error[3])) and not name.startswith(TAKEN))
+            fails(place, name, bool(FACT.search(what)) and not name.startswith(TAKEN))
         elif goal:
             left.append((goal[1], "at which this goal is false" in goal[2]))
         elif verdict:
             place = "proofs/" + verdict[1].replace("::", "/")
             for name, is_false in left:
                 fails(place, name, is_false or place not in lost)
-            if verdict[2] != "proved" and "it calls " not in verdict[2] and place not in found:
+            if verdict[2] != "proved" and "it calls " not in verdict[2] and place not in {*found, *rests}:
                 fails(place, "", False)
             left = []
     return found
@@ -246,9 +249,11 @@ def faults(crate, edit, said, proved):
     said = [f"{place} cannot be read" for place in failing if place.startswith(("src/", "specs/"))]
     for one in found:
         place, _, name = one.fails.partition(" ")
-        facts = [fact for goal, fact in failing.get(place, {}).items() if name in ("", goal)]
-        if not any(facts):
-            said.append(f"{one.label}: {one.fails} {'fails, but not by a fact' if facts else 'does not fail'}: {dict(failing)}")
+        facts = {goal: fact for goal, fact in failing.get(place, {}).items() if name in ("", goal)}
+        if not facts:
+            said.append(f"{one.label}: {one.fails} does not fail by itself, as these do: {', '.join(failing)}")
+        elif not any(facts.values()):
+            said.append(f"{one.label}: {one.fails} fails, but by no fact: {', '.join(facts)}")
     return said + (of_functions(crate, found, failing) if found[0].of_code() else of_definitions(crate, found))
 
 
