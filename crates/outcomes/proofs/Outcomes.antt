@@ -48,6 +48,9 @@ outcomes = record {
   pack = record { any = λ κs a. tt; one = λ κs a r r' l l'. again number (λ y. (tt, (y.out, tt))) };
   unpack = record { any = λ κs a. tt; one = λ κs a r r' l l'. plain };
   compare = record { any = λ κs a. tt; one = λ κs a r r' l l'. plain };
+  refusal_number = record { any = λ κs a. tt; one = λ κs a r r' l l'. plain };
+  refusal_when = record { any = λ κs a. tt; one = λ κs a r r' l l'. plain };
+  told = record { any = λ κs a. tt; one = λ κs a r r' l l'. plain };
   distance = record { any = λ κs a. tt; one = λ κs a r r' l l'. plain };
   copy = record { any = λ κs a. tt; one = λ κs a r r' l l'. again (λ y. tt) (λ y. (y, (tt, tt))) };
   round_constants = record { any = λ κs a. tt; one = λ κs a r r' l l'. plain };

@@ -5,6 +5,12 @@ use Rattle.std.specs.Prelude.{◌≡◌}
 use contract.Lifetimes.{Lfts}
 use denote.Triple.Entry.{Args, Res}
 use denote.Triple.Clauses.{Ended, Lasts, AtExit, at_exit}
+use Rattle.refusal.specs.contracts.Refusal.number as RefusalNumber
+use Rattle.refusal.proofs.Refusal.number.Reads as RefusalNumberReads
+use Rattle.refusal.specs.contracts.Refusal.when as RefusalWhen
+use Rattle.refusal.proofs.Refusal.when.Reads as RefusalWhenReads
+use Rattle.refusal.specs.contracts.told as Told
+use Rattle.refusal.proofs.told.Reads as ToldReads
 use Rattle.state.specs.contracts.State.start as Start
 use Rattle.state.proofs.State.start.Reads as StartReads
 use Rattle.store.specs.contracts.add as Add
@@ -152,6 +158,9 @@ pub record Outcomes : Type 1 where
   pub unpack : Tight Unpack.ended UnpackReads.Asked UnpackReads.Learnt
   pub compare : Tight Compare.ended CompareReads.Asked CompareReads.Learnt
   -- the functions below them
+  pub refusal_number : Tight RefusalNumber.ended RefusalNumberReads.Asked RefusalNumberReads.Learnt
+  pub refusal_when : Tight RefusalWhen.ended RefusalWhenReads.Asked RefusalWhenReads.Learnt
+  pub told : Tight Told.ended ToldReads.Asked ToldReads.Learnt
   pub distance : Tight Distance.ended DistanceReads.Asked DistanceReads.Learnt
   pub copy : Tight Copy.ended CopyReads.Asked CopyReads.Learnt
   pub round_constants : Tight RoundConstants.ended RoundConstantsReads.Asked RoundConstantsReads.Learnt
