@@ -8,12 +8,12 @@ ghost use Rattle.octets.specs.Layout.{number, bytes};
 pub fn bytes_2(n: u16) -> [u8; 2]
     ensures { result ≡ bytes 2 n }
 {
-    [(n / 256) as u8, (n % 256) as u8]
+    n.to_be_bytes()
 }
 
 // The number that two bytes are, most significant first.
 pub fn number_2(a: u8, b: u8) -> u16
     ensures { result ≡ number (a ∷ b ∷ []) }
 {
-    (a as u16) * 256 + (b as u16)
+    u16::from_be_bytes([a, b])
 }
