@@ -4,6 +4,7 @@
 ghost use Rattle.std.specs.Prelude.{◌≡◌, cond, [], ◌∷◌, ◌++◌, ◌+◌, ◌*◌, ◌/◌, ◌%◌, ◌^◌, ◌<◌, ◌≤◌, leb, length, get_or};
 ghost use Rattle.octets.specs.Layout.{number};
 ghost use Rattle.refusal.specs.Refusal.{filled};
+ghost use Rattle.refusal.specs.Told.{told};
 ghost use Rattle.sha256.specs.Sha256.{padded, word, block, absorbed, hash_bytes, finished, digest_of};
 
 use refusal::Refusal;
@@ -104,10 +105,12 @@ pub fn hash_bytes(h: [u32; 8]) -> [u8; 32]
 }
 
 // The digest of a message into out; refused, and out as it was, where the message has more than 8,192 bytes or out has not 32.
+#[tactic(auto, unfolding(crate::specs::Sha256::digest_of))]
 pub fn digest(message: &[u8], out: &mut [u8]) -> Result<(), Refusal>
     ensures { filled (told result) out.new ≡ digest_of message.now out.old }
 {
-    Refusal::Bound.when(message.len() > 8192 || out.len() != 32)?;
+    Refusal::Bound.when(message.len() > 8192)?;
+    Refusal::Bound.when(out.len() != 32)?;
     let h = finish(constants::initial_hash(), 0, message);
     out.copy_from_slice(&hash_bytes(h));
     Ok(())
