@@ -1,17 +1,15 @@
-// HMAC of RFC 2104 with SHA-256. The two hashes after the padded key are functions of their own.
+// HMAC of RFC 2104 with SHA-256.
 #![tactic(auto)]
 
-ghost use Rattle.std.specs.Prelude.{◌≡◌, ◌≤◌, length, replicate};
+ghost use Rattle.std.specs.Prelude.{◌≡◌, ◌≤◌, length};
 ghost use Rattle.constants.specs.Constants.{H0};
 ghost use Rattle.octets.specs.Places.{xor};
 ghost use Rattle.refusal.specs.Refusal.{filled};
+ghost use Rattle.refusal.specs.Told.{told};
 ghost use Rattle.sha256.specs.Sha256.{absorbed, hash_bytes, finished};
 ghost use Rattle.hmac.specs.Hmac.{ipad, opad, zero_filled, key_block, mac_of, tag_within};
 
 use refusal::Refusal;
-
-const IPAD: [u8; 64] = [0x36; 64];
-const OPAD: [u8; 64] = [0x5c; 64];
 
 // The bytes of k, and zeros to 64.
 fn zero_filled(k: &[u8]) -> [u8; 64]
@@ -52,11 +50,12 @@ struct Keyed {
 impl Keyed {
     // The key whose block is given.
     fn new(block: [u8; 64]) -> Keyed
-        ensures { result ≡ keyed block }
+        ensures inner { result.inner ≡ absorbed H0 (xor block ipad) }
+        ensures outer { result.outer ≡ absorbed H0 (xor block opad) }
     {
         Keyed {
-            inner: hash_after(block, IPAD),
-            outer: hash_after(block, OPAD),
+            inner: hash_after(block, [0x36; 64]),
+            outer: hash_after(block, [0x5c; 64]),
         }
     }
 
@@ -71,10 +70,13 @@ impl Keyed {
 }
 
 // The HMAC of a message under a key into out; refused, and out as it was, where the key has more than 1,024 bytes, the message more than 4,096, or out has not 32.
+#[tactic(auto, unfolding(crate::specs::Hmac::mac_of))]
 pub fn mac(key: &[u8], message: &[u8], out: &mut [u8]) -> Result<(), Refusal>
     ensures { filled (told result) out.new ≡ mac_of key.now message.now out.old }
 {
-    Refusal::Bound.when(key.len() > 1024 || message.len() > 4096 || out.len() != 32)?;
+    Refusal::Bound.when(key.len() > 1024)?;
+    Refusal::Bound.when(message.len() > 4096)?;
+    Refusal::Bound.when(out.len() != 32)?;
     out.copy_from_slice(&Keyed::new(key_block(key)).tag(message));
     Ok(())
 }
