@@ -1,7 +1,7 @@
 """Holds each must-fail edit to the place where it must fail: tries each one in a copy of the crates, and reads what the check says.
 
 An edit file has one wrong function or definition, or several that are checked at once. Each has a label, and what must fail. Of a wrong function
-that is its proof, named as the folder of its files, whether or not it has files. Of a wrong definition it is a declaration, named after its file:
+that is its proof, named as the folder of its files, whether or not it has files, or the proof of a closure in its body that has clauses, `proofs/fn/FUNCTION/NAME`. Of a wrong definition it is a declaration, named after its file:
 `proofs/FILE.antt NAME`. It may also be a goal of a function's proof, `proofs/FUNCTION GOAL`.
 
     wrong: LABEL
@@ -182,7 +182,7 @@ def refused(said):
             place = "proofs/" + verdict[1].replace("::", "/")
             for name, is_false in left:
                 fails(place, name, is_false or place not in lost)
-            if verdict[2] != "proved" and "it calls " not in verdict[2] and place not in {*found, *rests}:
+            if not verdict[2].startswith("proved") and "it calls " not in verdict[2] and place not in {*found, *rests}:
                 fails(place, "", False)
             left = []
     return found
@@ -201,6 +201,11 @@ def proof_of(crate, file, text):
     return found[0] if len(found) == 1 and source.count(text) == 1 else None
 
 
+def of_place(proof, fails):
+    """Whether a place is a function's proof, or that of a closure in its body, which has a contract of its own."""
+    return proof is not None and (fails == proof or fails.startswith(proof.replace("proofs/", "proofs/fn/", 1) + "/"))
+
+
 def of_functions(crate, found, failing):
     """What does not hold of a file's wrong functions."""
     named = [one.fails for one in found]
@@ -210,7 +215,7 @@ def of_functions(crate, found, failing):
         (file, old, new), *more = one.changes
         if more or old.count("let ") != new.count("let "):
             said.append(f"{one.label}: it is more than one change, or has other locals")
-        elif proof_of(crate, file, old) != one.fails and not (len(found) == 1 and "const " in old):
+        elif not of_place(proof_of(crate, file, old), one.fails) and not (len(found) == 1 and "const " in old):
             said.append(f"{one.label}: {file} is changed outside of the function that {one.fails} proves")
     return said
 

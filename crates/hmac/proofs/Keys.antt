@@ -4,15 +4,13 @@ use mathlib.Core.Bool.{cond}
 use mathlib.Core.List.{List, ◌++◌}
 use Prim.Native.Nat.{ℕ, ◌+◌, ◌-◌, ◌<◌, ◌≤◌}
 use native.Mathlib.Omega.{arith}
-use lib.Bits.{bit_xor}
 use lib.Dec.{leb}
-use lib.ListN.{length, get_or, drop, replicate, length-replicate, get_or-replicate, replicate-append-replicate}
-use lib.Seq.{drop_at, take_all}
+use lib.ListN.{length, drop, replicate, length-replicate, replicate-append-replicate}
+use lib.Seq.{drop_at}
 use borrow.Author.Tests.{lt-ltb, le-ltb}
-use Rattle.octets.specs.Places.{tabulate, xor}
-use Rattle.octets.proofs.Places.{tabulate_ext, tabulate_xor, xor_length}
+use Rattle.octets.specs.Places.{xor}
+use Rattle.octets.proofs.Places.{xor_length}
 use Rattle.constants.specs.Constants.{H0}
-use Rattle.lent.specs.Lent.{copied}
 use Rattle.sha256.specs.Sha256.{absorbed, hash_bytes, sha256, finished}
 use Rattle.sha256.proofs.Answers.{finish_short}
 use Rattle.sha256.proofs.Blocks.{sha256_append}
@@ -26,9 +24,9 @@ drop_zeros n k h =
     ∙ ap (drop {A = ℕ} n) (sym (replicate-append-replicate n (k - n) 0))
     ∙ drop_at (replicate n 0) (replicate (k - n) 0) n (length-replicate n 0)
 
-pub copied_zeros : (k : List ℕ) → length k ≤ 64 → copied (replicate 64 0) k ≡ zero_filled k
-unfolding copied zero_filled
-copied_zeros k h = ap₂ (λ (a b : List ℕ). a ++ b) (take_all 64 k h) (drop_zeros (length k) 64 h)
+pub copied_zeros : (k : List ℕ) → length k ≤ 64 → k ++ drop (length k) (replicate 64 0) ≡ zero_filled k
+unfolding zero_filled
+copied_zeros k h = ap (λ (z : List ℕ). k ++ z) (drop_zeros (length k) 64 h)
 
 module _ (key : List ℕ) where
   pub key_short : length key ≤ 64 → zero_filled key ≡ key_block key
@@ -39,12 +37,7 @@ module _ (key : List ℕ) where
   unfolding key_block short_key
   key_long d h e = rw (lt-ltb 64 (length key) h) (ap zero_filled e)
 
--- ---- a block, exclusive-or one byte
-pub xor_byte : (b : List ℕ) (v : ℕ) → length b ≡ 64 → tabulate (λ i. bit_xor (get_or b i 0) v) 64 ≡ xor b (replicate 64 v)
-xor_byte b v e =
-    tabulate_ext (λ i. bit_xor (get_or b i 0) v) (λ i. bit_xor (get_or b i 0) (get_or (replicate 64 v) i 0)) 64 (λ i l. ap (bit_xor (get_or b i 0)) (sym (get_or-replicate 64 i v 0 l)))
-    ∙ tabulate_xor b (replicate 64 v) 64 e (length-replicate 64 v)
-
+-- ---- a block, exclusive-or a pad
 after_pad : (b text : List ℕ) (v : ℕ) → length b ≡ 64 → hash_bytes (finished (absorbed H0 (xor b (replicate 64 v))) 1 text) ≡ sha256 (xor b (replicate 64 v) ++ text)
 after_pad b text v e =
     let l = xor_length b (replicate 64 v) (e ∙ sym (length-replicate 64 v)) in

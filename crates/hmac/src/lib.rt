@@ -1,20 +1,23 @@
-// HMAC of RFC 2104 with SHA-256. The two hashes after the padded key are functions of their own.
+// HMAC of RFC 2104 with SHA-256.
 #![tactic(auto)]
 
-ghost use Rattle.std.specs.Prelude.{◌≡◌, ◌≤◌, length, replicate};
+ghost use Rattle.std.specs.Prelude.{◌≡◌, ◌≤◌, length};
 ghost use Rattle.constants.specs.Constants.{H0};
 ghost use Rattle.octets.specs.Places.{xor};
 ghost use Rattle.refusal.specs.Refusal.{filled};
+ghost use Rattle.refusal.specs.Told.{told};
 ghost use Rattle.sha256.specs.Sha256.{absorbed, hash_bytes, finished};
 ghost use Rattle.hmac.specs.Hmac.{ipad, opad, zero_filled, key_block, mac_of, tag_within};
+
+use refusal::Refusal;
 
 // The bytes of k, and zeros to 64.
 fn zero_filled(k: &[u8]) -> [u8; 64]
     requires { length k.now ≤ 64 }
     ensures { result ≡ zero_filled k.now }
 {
-    let mut b = [0u8; 64];
-    lent::copy(&mut b, k);
+    let mut b = [0; 64];
+    b[..k.len()].copy_from_slice(k);
     b
 }
 
@@ -25,84 +28,57 @@ fn key_block(key: &[u8]) -> [u8; 64]
 {
     if key.len() > 64 {
         let h = sha256::finish(constants::initial_hash(), 0, key);
-        let d = sha256::hash_bytes(h);
-        return zero_filled(&d);
+        return zero_filled(&sha256::hash_bytes(h));
     }
     zero_filled(key)
 }
 
-// A block with v exclusive-ored into each byte.
-fn xored(b: [u8; 64], v: u8) -> [u8; 64]
-    ensures { result ≡ xor b (replicate 64 v) }
+// The hash after a key's block, exclusive-or a pad.
+fn hash_after(block: [u8; 64], pad: [u8; 64]) -> [u32; 8]
+    ensures { result ≡ absorbed H0 (xor block pad) }
 {
-    let mut x = [0u8; 64];
-    let mut i = 0;
-    while i < 64 {
-        x[i] = b[i] ^ v;
-        i += 1;
+    sha256::absorb(constants::initial_hash(), octets::xor(block, pad))
+}
+
+// A key, as the hashes after its block at the inner and at the outer pad.
+#[derive(Drop)]
+struct Keyed {
+    inner: [u32; 8],
+    outer: [u32; 8],
+}
+
+impl Keyed {
+    // The key whose block is given.
+    fn new(block: [u8; 64]) -> Keyed
+        ensures inner { result.inner ≡ absorbed H0 (xor block ipad) }
+        ensures outer { result.outer ≡ absorbed H0 (xor block opad) }
+    {
+        Keyed {
+            inner: hash_after(block, [0x36; 64]),
+            outer: hash_after(block, [0x5c; 64]),
+        }
     }
-    x
-}
 
-// The hash after a block with v exclusive-ored into each byte.
-fn hash_after(b: [u8; 64], v: u8) -> [u32; 8]
-    ensures { result ≡ absorbed H0 (xor b (replicate 64 v)) }
-{
-    let x = xored(b, v);
-    sha256::absorb(constants::initial_hash(), x)
-}
-
-// The hash after the inner block of a key whose block is b.
-fn inner_hash(b: [u8; 64]) -> [u32; 8]
-    ensures { result ≡ absorbed H0 (xor b ipad) }
-{
-    hash_after(b, 0x36)
-}
-
-// The hash after the outer block of a key whose block is b.
-fn outer_hash(b: [u8; 64]) -> [u32; 8]
-    ensures { result ≡ absorbed H0 (xor b opad) }
-{
-    hash_after(b, 0x5c)
-}
-
-// The outer hash of a text by the two hashes after a key's blocks.
-fn hash_from(inner: [u32; 8], outer: [u32; 8], text: &[u8]) -> [u32; 8]
-    requires { length text.now ≤ 4096 }
-    ensures { result ≡ finished outer 1 (hash_bytes (finished inner 1 text.now)) }
-{
-    let s = sha256::finish(inner, 1, text);
-    let d = sha256::hash_bytes(s);
-    sha256::finish(outer, 1, &d)
-}
-
-// The tag of a message by the two hashes after a key's blocks.
-fn tag_from(inner: [u32; 8], outer: [u32; 8], message: &[u8]) -> [u8; 32]
-    requires { length message.now ≤ 4096 }
-    ensures { result ≡ hash_bytes (finished outer 1 (hash_bytes (finished inner 1 message.now))) }
-{
-    let h = hash_from(inner, outer, message);
-    sha256::hash_bytes(h)
-}
-
-// The HMAC of a message under a key into out: 0; or 10, and out as it was, where the key has more than 1,024 bytes, the message more than 4,096, or out has not 32.
-pub fn mac(key: &[u8], message: &[u8], out: &mut [u8]) -> u8
-    ensures { filled result out.new ≡ mac_of key.now message.now out.old }
-{
-    if key.len() > 1024 {
-        return 10;
+    // The HMAC of a text.
+    fn tag(&self, text: &[u8]) -> [u8; 32]
+        requires { length text.now ≤ 4096 }
+        ensures { result ≡ hash_bytes (finished self.now.outer 1 (hash_bytes (finished self.now.inner 1 text.now))) }
+    {
+        let d = sha256::hash_bytes(sha256::finish(self.inner, 1, text));
+        sha256::hash_bytes(sha256::finish(self.outer, 1, &d))
     }
-    if message.len() > 4096 {
-        return 10;
-    }
-    if out.len() != 32 {
-        return 10;
-    }
-    let b = key_block(key);
-    let h = hash_from(inner_hash(b), outer_hash(b), message);
-    let d = sha256::hash_bytes(h);
-    lent::copy(out, &d);
-    0
+}
+
+// The HMAC of a message under a key into out; refused, and out as it was, where the key has more than 1,024 bytes, the message more than 4,096, or out has not 32.
+#[tactic(auto, unfolding(crate::specs::Hmac::mac_of))]
+pub fn mac(key: &[u8], message: &[u8], out: &mut [u8]) -> Result<(), Refusal>
+    ensures { filled (told result) out.new ≡ mac_of key.now message.now out.old }
+{
+    Refusal::Bound.when(key.len() > 1024)?;
+    Refusal::Bound.when(message.len() > 4096)?;
+    Refusal::Bound.when(out.len() != 32)?;
+    out.copy_from_slice(&Keyed::new(key_block(key)).tag(message));
+    Ok(())
 }
 
 // The HMAC of a message under a key of 32 bytes; zeros where the message has more than 4,096.
@@ -110,8 +86,7 @@ pub fn tag(key: [u8; 32], message: &[u8]) -> [u8; 32]
     ensures { result ≡ tag_within key message.now }
 {
     if message.len() <= 4096 {
-        let b = zero_filled(&key);
-        return tag_from(inner_hash(b), outer_hash(b), message);
+        return Keyed::new(zero_filled(&key)).tag(message);
     }
-    [0u8; 32]
+    [0; 32]
 }

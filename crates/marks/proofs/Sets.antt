@@ -3,16 +3,17 @@ use mathlib.Core.Path.{◌≡◌, refl, sym, ap, ◌∙◌, subst}
 use mathlib.Core.Bool.{Bool, true, false, cond, not}
 use mathlib.Core.List.{List, [], ◌∷◌, ◌++◌}
 use mathlib.Core.Logic.{⊎_elim, ◌↔◌}
-use Prim.Native.Nat.{ℕ, zero, suc, ◌+◌, ◌-◌, ◌≤◌, ◌<◌}
+use Prim.Native.Nat.{ℕ, zero, suc, ◌+◌, ◌-◌, ◌/◌, ◌^◌, ◌≤◌, ◌<◌}
 use native.Mathlib.Nat.{eq-or-lt_of_le}
 use native.Mathlib.Omega.{arith}
-use lib.ListN.{length, length-append}
+use lib.ListN.{length, get_or, length-append}
 use borrow.Author.Tests.{eq-eqb, ne_eqb, not-true, not-false}
 use Rattle.state.specs.Sizes.{addresses}
 use Rattle.state.specs.Marks.{used, used_below, count_below, first_from, lowest_free}
 use Rattle.state.specs.Access.{lowest_of, free_number}
 use Rattle.state.specs.declared.Free.TheVariants.{At, Full}
 use Rattle.marks.specs.Next.{next_used}
+use Rattle.marks.proofs.Words.{complements, used_complements}
 
 -- ---- the count
 
@@ -142,3 +143,17 @@ next_only ws a r f = first_only (used ws) (addresses - a) a r f
 pub next_is : (ws : List ℕ) (a : ℕ) → First (used ws) (addresses - a) a (next_used ws a)
 unfolding next_used
 next_is ws a = first_is (used ws) (addresses - a) a
+
+-- ---- the first free address is the first in use by the complements of the words
+
+pub lowest_next : (ws : List ℕ) → ((q : ℕ) → get_or ws q 0 < 2 ^ 64) → next_used (complements ws) 0 ≡ lowest_free ws
+unfolding addresses
+lowest_next ws w =
+    let n = next_is (complements ws) 0 in
+    let e : (a : ℕ) → a < 1024 → used (complements ws) a ≡ free ws a = λ a h. used_complements ws a h (w (a / 64)) in
+    sym (lowest_only ws _ (record {
+      from = n.from;
+      to = n.to;
+      before = λ b g h. sym (e b (omega (arith, n.to))) ∙ n.before b g h;
+      here = λ h. sym (e _ (omega arith)) ∙ n.here h;
+    }))

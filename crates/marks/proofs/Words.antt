@@ -1,6 +1,6 @@
 -- A word's ones are its marks that are set, and its trailing zeros stand before the first of them: by induction on the digits. Assumes nothing.
 use mathlib.Core.Path.{◌≡◌, refl, sym, ap, ◌∙◌}
-use mathlib.Core.Bool.{Bool, true, false, cond}
+use mathlib.Core.Bool.{Bool, true, false, cond, not}
 use mathlib.Core.List.{List}
 use mathlib.Core.Logic.{◌⊎◌, inl, inr, ⊎_elim}
 use Prim.Native.Nat.{ℕ, zero, suc, ◌+◌, ◌-◌, ◌*◌, ◌/◌, ◌%◌, ◌^◌, ◌≤◌, ◌<◌}
@@ -11,6 +11,8 @@ use borrow.Author.Tests.{ltb-true, ltb-false}
 use lib.Dec.{eqb, ltb, lit<}
 use lib.ListN.{length, get_or, get_or-eq_default}
 use lib.Pow.{pow_pos, pow_mono, mod-pow-add, shr-shr, shl_exact}
+use Rattle.octets.specs.Places.{tabulate}
+use Rattle.octets.proofs.Places.{tabulate_get_d}
 use Rattle.state.specs.Marks.{used, count_below}
 
 -- digit b of word q is the mark of address 64 q + b
@@ -99,6 +101,23 @@ digit_not (suc k) n (suc j) h g =
     let e : ((2 ^ suc k - 1) - n) / 2 ≡ (2 ^ k - 1) - n / 2 = omega arith in
     rw (digit_suc n j, digit_suc ((2 ^ suc k - 1) - n) j, e) (digit_not k (n / 2) j (omega arith) (omega arith))
 
+-- two digits of which one is 1
+other_digit : (x y : ℕ) → x + y ≡ 1 → eqb x 1 ≡ not (eqb y 1)
+other_digit x zero e = let f : x ≡ 1 = omega arith in rw f refl
+other_digit x (suc zero) e = let f : x ≡ 0 = omega arith in rw f refl
+other_digit x (suc (suc y)) e = absurd (omega arith)
+
+-- the words of which each is the complement of one of these
+abbrev pub complements : List ℕ → List ℕ
+complements ws = tabulate (λ q. (2 ^ 64 - 1) - get_or ws q 0) 16
+
+-- their marks are set where these are not
+pub used_complements : (ws : List ℕ) (a : ℕ) → a < 1024 → get_or ws (a / 64) 0 < 2 ^ 64 → used (complements ws) a ≡ not (used ws a)
+unfolding used
+used_complements ws a h w =
+    let e = tabulate_get_d (λ q. (2 ^ 64 - 1) - get_or ws q 0) 16 (a / 64) (omega arith) in
+    rw e (other_digit _ _ (digit_not 64 (get_or ws (a / 64) 0) (a % 64) w (omega arith)))
+
 below_or_not : (a b : ℕ) → (a < b) ⊎ (b ≤ a)
 below_or_not a b = side (ltb a b) refl
   where
@@ -146,15 +165,3 @@ module _ (ws : List ℕ) (q : ℕ) where
 
   pub word_found : (t : ℕ) → FirstOne 64 (get_or ws q 0) t → t < 64 → used ws (q * 64 + t) ≡ true
   word_found t f h = used_digit ws q t h ∙ ap (λ (d : ℕ). eqb d 1) (f.one h)
-
-  -- its first zero is the first one of its complement
-  pub full_gap : (t : ℕ) → get_or ws q 0 < 2 ^ 64 → FirstOne 64 ((2 ^ 64 - 1) - get_or ws q 0) t → t ≤ 64 → (b : ℕ) → q * 64 ≤ b → b < q * 64 + t → used ws b ≡ true
-  full_gap t w f k b h g =
-      let e : b ≡ q * 64 + (b - q * 64) = omega arith in
-      let d : get_or ws q 0 / 2 ^ (b - q * 64) % 2 ≡ 1 = omega (arith, digit_not 64 (get_or ws q 0) (b - q * 64) w (omega arith), f.below (b - q * 64) (omega arith)) in
-      ap (used ws) e ∙ used_digit ws q (b - q * 64) (omega arith) ∙ ap (λ (x : ℕ). eqb x 1) d
-
-  pub full_found : (t : ℕ) → get_or ws q 0 < 2 ^ 64 → FirstOne 64 ((2 ^ 64 - 1) - get_or ws q 0) t → t < 64 → used ws (q * 64 + t) ≡ false
-  full_found t w f h =
-      let d : get_or ws q 0 / 2 ^ t % 2 ≡ 0 = omega (arith, digit_not 64 (get_or ws q 0) t w h, f.one h) in
-      used_digit ws q t h ∙ ap (λ (x : ℕ). eqb x 1) d

@@ -6,6 +6,7 @@ ghost use Rattle.state.specs.Marks.{used, marked, unmarked, count_of, lowest_fre
 ghost use Rattle.marks.specs.Next.{next_used};
 
 use state::State;
+use std::array;
 
 // Is the address in use; no address past the last is.
 pub fn used(marks: [u64; State::WORDS], a: usize) -> bool
@@ -25,7 +26,7 @@ pub fn with_mark(marks: [u64; State::WORDS], a: usize) -> [u64; State::WORDS]
     let q = a / 64;
     let mut m = marks;
     if q < State::WORDS {
-        m[q] = m[q] | (1 << (a % 64));
+        m[q] |= 1 << (a % 64);
     }
     m
 }
@@ -37,7 +38,7 @@ pub fn without_mark(marks: [u64; State::WORDS], a: usize) -> [u64; State::WORDS]
     let q = a / 64;
     let mut m = marks;
     if q < State::WORDS {
-        m[q] = m[q] & !(1 << (a % 64));
+        m[q] &= !(1 << (a % 64));
     }
     m
 }
@@ -46,11 +47,9 @@ pub fn without_mark(marks: [u64; State::WORDS], a: usize) -> [u64; State::WORDS]
 pub fn count(marks: [u64; State::WORDS]) -> u32
     ensures { result ≡ count_of marks }
 {
-    let mut n: u32 = 0;
-    let mut i: usize = 0;
-    while i < State::WORDS {
-        n += u64::count_ones(marks[i]);
-        i += 1;
+    let mut n = 0;
+    for word in &marks {
+        n += word.count_ones();
     }
     n
 }
@@ -59,15 +58,7 @@ pub fn count(marks: [u64; State::WORDS]) -> u32
 pub fn lowest(marks: [u64; State::WORDS]) -> usize
     ensures { result ≡ lowest_free marks }
 {
-    let mut q: usize = 0;
-    while q < State::WORDS {
-        let t = u64::trailing_zeros(!marks[q]);
-        if t < 64 {
-            return q * 64 + t as usize;
-        }
-        q += 1;
-    }
-    State::ADDRESSES
+    next_from(array::from_fn(|q| !marks[q]), 0)
 }
 
 // The smallest address in use from word q on, or where the addresses end: a word's first one stands after its trailing zeros.
@@ -75,13 +66,11 @@ fn next_from(marks: [u64; State::WORDS], q: usize) -> usize
     requires { q ≤ 16 }
     ensures { result ≡ next_used marks (q * 64) }
 {
-    let mut k = q;
-    while k < State::WORDS {
-        let t = u64::trailing_zeros(marks[k]);
+    for k in q..State::WORDS {
+        let t = marks[k].trailing_zeros();
         if t < 64 {
             return k * 64 + t as usize;
         }
-        k += 1;
     }
     State::ADDRESSES
 }
@@ -94,7 +83,7 @@ pub fn next_used(marks: [u64; State::WORDS], a: usize) -> usize
     if q >= State::WORDS {
         return a;
     }
-    let t = u64::trailing_zeros(marks[q] >> (a % 64));
+    let t = (marks[q] >> (a % 64)).trailing_zeros();
     if t < 64 {
         return a + t as usize;
     }

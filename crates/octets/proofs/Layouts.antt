@@ -9,6 +9,7 @@ use lib.ListN.{length, get_or, length-replicate, length-append, replicate-append
 use lib.Dec.{T, ltb}
 use lib.Pow.{pow_pos, pow-add, high, low, field, mod-pow-add, mod-mod-pow}
 use borrow.Author.Tests.{ltb-true}
+use Rattle.std.specs.Int.{w16, w32, bytes_high_first, from_be_bytes}
 use Rattle.octets.specs.Layout.{total, join, split, Fit, none, more, octets, number, bytes}
 
 -- ---- any widths
@@ -182,20 +183,21 @@ number_append ds bs =
     ap (λ (ws : List ℕ). join ws (ds ++ bs)) w ∙ join_append (octets (length ds)) ds (octets (length bs)) bs (length-replicate (length ds) 8)
     ∙ ap (λ (k : ℕ). join (octets (length ds)) ds * 2 ^ k + join (octets (length bs)) bs) (octets_total (length bs))
 
--- ---- two bytes, and four
+-- ---- the library's words
 
-pub bytes_2 : (n : ℕ) → bytes 2 n ≡ (n / 256 % 256) ∷ (n % 256) ∷ []
+-- the bytes that `to_be_bytes` gives
+pub bytes_high : (w n : ℕ) → bytes_high_first w n ≡ bytes w n
 unfolding bytes split total
-bytes_2 n = simp (div-one n)
+bytes_high zero n = refl
+bytes_high (suc zero) n = ap (λ (m : ℕ). m % 256 ∷ []) (sym (div-one n))
+bytes_high (suc (suc w)) n =
+    ap₂ (λ (m : ℕ) (l : List ℕ). n / m % 256 ∷ l) (sym (pow_bytes (suc w)) ∙ ap (λ (k : ℕ). 2 ^ k) (sym (octets_total (suc w)))) (bytes_high (suc w) n)
 
-pub bytes_4 : (n : ℕ) → bytes 4 n ≡ (n / 16777216 % 256) ∷ (n / 65536 % 256) ∷ (n / 256 % 256) ∷ (n % 256) ∷ []
-unfolding bytes split total
-bytes_4 n = simp (div-one n)
-
-pub number_2 : (a b : ℕ) → number (a ∷ b ∷ []) ≡ a * 256 + b
+-- the numbers that `from_be_bytes` gives
+pub number_2 : (a b : ℕ) → from_be_bytes w16 (a ∷ b ∷ []) ≡ number (a ∷ b ∷ [])
 unfolding number join total
 number_2 a b = omega arith
 
-pub number_4 : (a b c d : ℕ) → number (a ∷ b ∷ c ∷ d ∷ []) ≡ a * 16777216 + b * 65536 + c * 256 + d
+pub number_4 : (a b c d : ℕ) → from_be_bytes w32 (a ∷ b ∷ c ∷ d ∷ []) ≡ number (a ∷ b ∷ c ∷ d ∷ [])
 unfolding number join total
 number_4 a b c d = omega arith

@@ -1,6 +1,6 @@
 -- A table's places are its function's values, and a list filled from the front has the new values before what is left of the old:
 -- by induction on the number of places. Assumes nothing.
-use mathlib.Core.Path.{◌≡◌, refl, sym, ap, ◌∙◌}
+use mathlib.Core.Path.{◌≡◌, refl, sym, ap, subst, ◌∙◌}
 use mathlib.Core.List.{List, [], ◌∷◌, ◌++◌, append-nil}
 use mathlib.Core.Logic.{⊎_elim}
 use Prim.Native.Nat.{ℕ, zero, suc, ◌+◌, ◌<◌, ◌≤◌}
@@ -10,6 +10,9 @@ use native.Mathlib.Omega.{arith}
 use lib.Bits.{bit_xor}
 use lib.ListN.{length, get_or, set, drop, length-append, drop_of_length-le, get_or-append}
 use lib.Seq.{drop-cons, set_at, get_or_at, ext_get_or, append_snoc}
+use denote.Param.Members.{Mut}
+use Rattle.std.specs.Iterator.{ActsAs}
+use Rattle.std.specs.Array.{IsFromFnResult, IsFromFnResultFrom}
 use Rattle.octets.specs.Places.{tabulate, xor}
 
 -- a list filled up to n, written at n
@@ -51,6 +54,19 @@ tabulate_ext f g n h = tabulate_is f n (tabulate g n) (tabulate_length g n) (λ 
 -- a turn of a loop that fills d with the table of f
 pub fill_step : (f : ℕ → ℕ) (n : ℕ) (d : List ℕ) → n < length d → set (tabulate f n ++ drop n d) n (f n) ≡ tabulate f (n + 1) ++ drop (n + 1) d
 fill_step f n d h = rw tabulate_more (fill_next (tabulate f n) d n (f n) (tabulate_length f n) h)
+
+-- an array made place by place by a closure that acts as f is f's table
+module _ {F : Type 0} (g : Mut F (ℕ × Unit {0}) ℕ) (f : ℕ → ℕ) (e : F) (acts : ActsAs g e f) (ys : List ℕ) where
+  from_fn_place : (n i k : ℕ) → IsFromFnResultFrom g e ys i n → i ≤ k → k < i + n → get_or ys k 0 ≡ f k
+  from_fn_place zero i k r l h = absurd (omega arith)
+  from_fn_place (suc n) i k r l h =
+      let c = acts i r.1 r.0 r.3 in
+      ⊎_elim (λ p. subst (λ (j : ℕ). get_or ys j 0 ≡ f j) p (r.2.1 0 ∙ c.1))
+      (λ m. from_fn_place n (i + 1) k (subst (λ (q : F). IsFromFnResultFrom g q ys (i + 1) n) c.0 r.4) (omega arith) (omega arith))
+      (eq-or-lt_of_le l)
+
+  pub from_fn_table : (n : ℕ) → IsFromFnResult g e ys n → ys ≡ tabulate f n
+  from_fn_table n r = sym (tabulate_is f n ys r.long (λ i l. sym (from_fn_place n 0 i r.each (omega arith) (omega arith))))
 
 pub xor_length : (xs ys : List ℕ) → length xs ≡ length ys → length (xor xs ys) ≡ length xs
 unfolding xor

@@ -2,9 +2,9 @@
 #![tactic(auto)]
 
 ghost use Rattle.std.specs.Prelude.{◌≡◌};
-ghost use Rattle.round.specs.Round.{ch, maj, Σ0, Σ1, round};
-
-use std::num::wrapping_add_u32;
+ghost use Rattle.std.specs.Int.{w32, rotate_right};
+ghost use Rattle.schedule.specs.Words.{◌⊕◌};
+ghost use Rattle.round.specs.Round.{ch, maj, round};
 
 // Ch (4.2): the bits of y where x has a 1, those of z where it has a 0.
 fn ch(x: u32, y: u32, z: u32) -> u32
@@ -20,44 +20,24 @@ fn maj(x: u32, y: u32, z: u32) -> u32
     (x & y) ^ (x & z) ^ (y & z)
 }
 
-// Σ0 (4.4).
-fn big0(x: u32) -> u32
-    ensures { result ≡ Σ0 x }
+// A word turned right by A, by B and by C bits, by exclusive-or: Σ0 (4.4) or Σ1 (4.5), by the three numbers.
+fn sigma<const A: u32, const B: u32, const C: u32>(x: u32) -> u32
+    ensures { result ≡ rotate_right w32 x A ⊕ rotate_right w32 x B ⊕ rotate_right w32 x C }
 {
-    (x >> 2 | x << 30) ^ (x >> 13 | x << 19) ^ (x >> 22 | x << 10)
-}
-
-// Σ1 (4.5).
-fn big1(x: u32) -> u32
-    ensures { result ≡ Σ1 x }
-{
-    (x >> 6 | x << 26) ^ (x >> 11 | x << 21) ^ (x >> 25 | x << 7)
+    x.rotate_right(A) ^ x.rotate_right(B) ^ x.rotate_right(C)
 }
 
 // The words a .. h after one round, at its constant and its word of the schedule.
+#[tactic(auto, unfolding(crate::specs::Round::round))]
 pub fn one_round(s: [u32; 8], k: u32, w: u32) -> [u32; 8]
     ensures { result ≡ round k w s }
 {
-    let a = s[0];
-    let b = s[1];
-    let c = s[2];
-    let d = s[3];
-    let e = s[4];
-    let f = s[5];
-    let g = s[6];
-    let h = s[7];
-    let x = wrapping_add_u32(h, big1(e));
-    let y = wrapping_add_u32(x, ch(e, f, g));
-    let t1 = wrapping_add_u32(wrapping_add_u32(y, k), w);
-    let t2 = wrapping_add_u32(big0(a), maj(a, b, c));
-    [
-        wrapping_add_u32(t1, t2),
-        a,
-        b,
-        c,
-        wrapping_add_u32(d, t1),
-        e,
-        f,
-        g,
-    ]
+    let [a, b, c, d, e, f, g, h] = s;
+    let t1 = h
+        .wrapping_add(sigma::<6, 11, 25>(e))
+        .wrapping_add(ch(e, f, g))
+        .wrapping_add(k)
+        .wrapping_add(w);
+    let t2 = sigma::<2, 13, 22>(a).wrapping_add(maj(a, b, c));
+    [t1.wrapping_add(t2), a, b, c, d.wrapping_add(t1), e, f, g]
 }

@@ -1,11 +1,11 @@
 -- The schedule's words are those of the standard's two equations: a word reads only words before it, so that those made later leave it as it is.
 -- Assumes nothing.
-use Rattle.std.proofs.Common.{◌≡◌, ℕ, zero, suc, ◌+◌, ◌-◌, ◌<◌, ◌≤◌, List, [], ◌∷◌, ◌++◌, length, get_or, take, drop, set, sym, refl, ap, ◌∙◌, ⊎_elim, le_of_suc-le-suc, not-suc-le-zero, eq-or-lt_of_le, add-one, arith, length-append, take-append-drop, length-take-le, get_or-take, le-ltb, lt-ltb}
+use Rattle.std.proofs.Common.{◌≡◌, ℕ, zero, suc, ◌+◌, ◌-◌, ◌<◌, ◌≤◌, List, [], ◌∷◌, ◌++◌, length, get_or, drop, set, sym, refl, ap, ◌∙◌, ⊎_elim, le_of_suc-le-suc, not-suc-le-zero, eq-or-lt_of_le, add-one, arith, length-append, le-ltb, lt-ltb}
 use native.Mathlib.Decide.{dec_lt}
 use lib.ListN.{get_or-append}
 use lib.Seq.{get_or_at}
 use Rattle.octets.specs.Places.{tabulate}
-use Rattle.octets.proofs.Places.{fill_next, tabulate_is}
+use Rattle.octets.proofs.Places.{fill_next, tabulate_own}
 use Rattle.schedule.specs.Schedule.{following, word, schedule, Scheduled}
 
 schedule_length : (t : ℕ) (m : List ℕ) → length (schedule t m) ≡ t
@@ -55,21 +55,10 @@ schedule_rule m = record {
   later = λ t g h. schedule_word 64 t m h ∙ word_later m (schedule 64 m) t g;
 }
 
--- of the block only its sixteen words are read
-pub schedule_ext : (m n : List ℕ) → ((i : ℕ) → i < 16 → get_or m i 0 ≡ get_or n i 0) → (t : ℕ) → schedule t m ≡ schedule t n
-unfolding schedule
-schedule_ext m n e zero = refl
-schedule_ext m n e (suc t) =
-    let w = schedule t n in
-    rw (schedule_ext m n e t)
-    (by_case t (λ h. rw (word_block m w t h, word_block n w t h, e t h)) (λ h. rw (word_later m w t h, word_later n w t h)))
-
--- a list that begins with a block is filled with the first sixteen words
-pub schedule_block : (w : List ℕ) → 16 ≤ length w → w ≡ schedule 16 w ++ drop 16 w
+-- a block is its own first sixteen words
+pub schedule_block : (m : List ℕ) → length m ≡ 16 → schedule 16 m ≡ m
 unfolding schedule word tabulate
-schedule_block w h =
-    let e : schedule 16 w ≡ take 16 w = tabulate_is (λ i. get_or w i 0) 16 (take 16 w) (length-take-le 16 w h) (λ i l. sym (get_or-take 16 w i 0 l)) in
-    sym (ap (λ (l : List ℕ). l ++ drop 16 w) e ∙ take-append-drop 16 w)
+schedule_block m h = tabulate_own m 16 h
 
 -- a turn of a loop that fills d with the schedule
 pub schedule_turn : (m d w : List ℕ) (t : ℕ) → 16 ≤ t → t < length d → w ≡ schedule t m ++ drop t d

@@ -1,29 +1,18 @@
--- `compress::all_rounds` meets its contract: after t rounds, a multiple of 8, the words are those of `rounds t`. Assumes nothing.
-use Rattle.std.proofs.Common.{◌≡◌, refl, arith, rules}
+-- `compress::all_rounds` meets its contract: each turn makes eight rounds. Assumes nothing.
+use Rattle.std.proofs.Common.{◌≡◌, ◌*◌, ℕ, arith, refl, ap, rules, ◌∙◌}
 use Rattle.compress.specs.Compress.{rounds}
 use Rattle.compress.proofs.Rounds.{rounds_turn}
 use Rattle.compress.proofs.all_rounds.Goals as goal
 
-pub loop-t-init : goal.loop-t-init
+pub loop-turn-init : goal.loop-turn-init
 unfolding rounds
-loop-t-init c = (search rules, (search rules, refl))
+loop-turn-init c = refl
 
-pub loop-t-preserved : goal.loop-t-preserved
-loop-t-preserved c = (
-  omega arith,
-  (
-    omega arith,
-    rounds_turn _ _ _ c.round_constants-k.ensures c.loop-t.t c.loop-t.invariant.1.1
-        c.one_round-s1.ensures
-        c.one_round-s2.ensures
-        c.one_round-s3.ensures
-        c.one_round-s4.ensures
-        c.one_round-s5.ensures
-        c.one_round-s6.ensures
-        c.one_round-s7.ensures
-        c.one_round-s8.ensures,
-  ),
-)
+pub loop-turn-preserved : goal.loop-turn-preserved
+loop-turn-preserved c =
+    let a = c.args in
+    rounds_turn _ a.w a.h c.round_constants-k.ensures (8 * c.loop-turn.turn) 8 c.fold-next.ensures.ran (λ s x r f' k. search rules) c.loop-turn.invariant
+    ∙ ap (λ (n : ℕ). rounds n a.w a.h) (omega arith)
 
 pub returns : goal.returns
-returns c = let e : c.loop-t.t ≡ 64 = omega arith in rw e at c.loop-t.invariant.1.1
+returns c = let e : c.loop-turn.turn ≡ 8 = omega arith in rw e at c.loop-turn.invariant

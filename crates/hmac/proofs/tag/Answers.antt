@@ -11,8 +11,8 @@ pub returns-then-message-le4096 : goal.returns-then-message-le4096
 returns-then-message-le4096 c =
     let a = c.args in
     let n : length a.key ≡ 32 = search rules in
-    c.tag_from.ensures
-    ∙ hmac_finished a.key a.message.now c.zero_filled-b.result _ _ _ (search rules) (c.zero_filled-b.ensures ∙ key_short a.key (omega arith)) c.inner_hash.ensures c.outer_hash.ensures refl
+    c.tag.ensures
+    ∙ hmac_finished a.key a.message.now c.zero_filled.result _ _ _ (search rules) (c.zero_filled.ensures ∙ key_short a.key (omega arith)) c.new.ensures.inner c.new.ensures.outer refl
     ∙ sym (tag_short a.key a.message.now (omega arith))
 
 pub returns : goal.returns

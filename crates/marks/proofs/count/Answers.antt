@@ -12,26 +12,26 @@ use Rattle.state.specs.Marks.{count_below, count_of}
 use Rattle.marks.proofs.Words.{count_word}
 use Rattle.marks.proofs.count.Goals as goal
 
-pub loop-i-init : goal.loop-i-init
+pub loop-word-init : goal.loop-word-init
 unfolding count_below
-loop-i-init c = search rules
+loop-word-init c = search rules
 
 pub overflow_add-n : goal.overflow_add-n
 overflow_add-n c =
-    let w : ℕ = get_or c.args.marks c.loop-i.i 0 in
+    let w : ℕ = get_or c.args.marks c.loop-word.word-index 0 in
     let f : Fits w64 w = search rules in
     omega (arith, ones-le 64 w f.fits)
 
-pub loop-i-preserved : goal.loop-i-preserved
-loop-i-preserved c =
+pub loop-word-preserved : goal.loop-word-preserved
+loop-word-preserved c =
     let ws = c.args.marks in
-    let i : ℕ = c.loop-i.i in
+    let i : ℕ = c.loop-word.word-index in
     let f : Fits w64 (get_or ws i 0) = search rules in
     omega (arith, ones-le 64 (get_or ws i 0) f.fits, count_word ws i f.fits)
 
 pub returns : goal.returns
 unfolding count_of addresses
 returns c =
-    let l = c.loop-i in
-    let e : l.i ≡ 16 = omega arith in
-    l.invariant.2 ∙ ap (λ (i : ℕ). count_below (i * 64) c.args.marks) e
+    let l = c.loop-word in
+    let e : l.word-index ≡ 16 = omega arith in
+    l.invariant.1 ∙ ap (λ (i : ℕ). count_below (i * 64) c.args.marks) e

@@ -18,7 +18,7 @@ returns-then-t-lt64 c =
     sym (next_only x.marks (x.q * 64) _ (record {
       from = omega arith;
       to = omega arith;
-      before = onwards (l.k * 64) _ l.invariant.2 (word_gap x.marks l.k _ o (omega arith));
+      before = onwards (l.k * 64) _ l.invariant (word_gap x.marks l.k _ o (omega arith));
       here = λ h. word_found x.marks l.k _ o c.if-t-lt64.true;
     }))
 
@@ -27,7 +27,7 @@ loop-k-preserved c =
     let x = c.args in
     let l = c.loop-k in
     let o = first_one 64 (get_or x.marks l.k 0) in
-    (omega arith, omega arith, λ b g h. onwards (l.k * 64) _ l.invariant.2 (word_gap x.marks l.k _ o (trailing_le 64 _)) b g (omega arith))
+    λ b g h. onwards (l.k * 64) _ l.invariant (word_gap x.marks l.k _ o (trailing_le 64 _)) b g (omega arith)
 
 pub returns : goal.returns
 unfolding addresses
@@ -37,9 +37,9 @@ returns c =
     sym (next_only x.marks (x.q * 64) 1024 (record {
       from = omega arith;
       to = omega arith;
-      before = λ b g h. l.invariant.2 b g (omega arith);
+      before = λ b g h. l.invariant b g (omega arith);
       here = λ h. absurd (omega arith);
     }))
 
 pub loop-k-init : goal.loop-k-init
-loop-k-init c = (omega arith, omega arith, λ b g h. absurd (omega arith))
+loop-k-init c = λ b g h. absurd (omega arith)

@@ -1,18 +1,16 @@
 -- `multiset::same_tag` meets its contract: after each turn the byte tells of one place more. Assumes nothing.
-use Rattle.std.proofs.Common.{◌≡◌, length, ◌∙◌, arith, rules}
+use Rattle.std.proofs.Common.{◌≡◌, ◌∙◌, ⊎_elim, rules}
 use Rattle.multiset.proofs.Apart.{tells_nothing, tells_more, tells_all}
 use Rattle.multiset.proofs.same_tag.Goals as goal
 
-pub loop-k-init : goal.loop-k-init
-loop-k-init c = (omega arith, tells_nothing _ _)
+pub loop-x-init : goal.loop-x-init
+loop-x-init c =
+    let s : c.into_iter-x-iterator.result.a.rest.now ≡ c.args.s = search rules in
+    let t : c.into_iter-x-iterator.result.b.rest.now ≡ c.args.t = search rules in
+    rw (s, t) (tells_nothing _ _ (search rules))
 
-pub loop-k-preserved : goal.loop-k-preserved
-loop-k-preserved c = (omega arith, tells_more _ _ _ _ c.loop-k.invariant.1)
+pub loop-x-preserved : goal.loop-x-preserved
+loop-x-preserved c = let e = c.in-Some.ensures.steps in tells_more _ _ _ _ _ (rw (e.0, e.1) at c.loop-x.invariant)
 
 pub returns : goal.returns
-returns c =
-    let l = c.loop-k in
-    let k : l.k ≡ 32 = omega arith in
-    let m : length c.args.s ≡ 32 = search rules in
-    let n : length c.args.t ≡ 32 = search rules in
-    tells_all _ _ l.apart l.k (m ∙ (cc)) (n ∙ (cc)) l.invariant.1
+returns c = let h = c.loop-x.invariant in tells_all _ _ _ _ _ h (⊎_elim (λ e. e.1.0) (λ e. h.long ∙ e.1.0) c.in-None.ensures.steps)

@@ -1,10 +1,6 @@
--- `multiset::same_tag` meets its contract: after each turn the byte tells of one place more. Assumes nothing.
-use Rattle.std.proofs.Common.{◌-◌, ◌≤◌}
+-- `multiset::same_tag`: after each turn the byte tells of one place more.
 use Rattle.multiset.proofs.Apart.{Tells}
 use Rattle.multiset.proofs.same_tag.Given as goal
 
-abbrev pub invariant-loop-k : goal.invariant-loop-k
-invariant-loop-k l = (l.k ≤ 32) × Tells l.s l.t l.apart l.k
-
-abbrev pub decreases-loop-k : goal.decreases-loop-k
-decreases-loop-k l = 32 - l.k
+abbrev pub invariant-loop-x : goal.invariant-loop-x
+invariant-loop-x l = Tells l.fn.s l.fn.t l.apart l.x-iterator.a.rest.now l.x-iterator.b.rest.now

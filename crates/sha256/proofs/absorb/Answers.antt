@@ -13,4 +13,4 @@ returns c =
     let b = c.args.b in
     let n : length b ≡ 64 = search rules in
     let e : length b / 64 ≡ 1 = omega arith in
-    rw (e, c.compressed.ensures, c.whole_block-w.ensures)
+    rw (e, c.compressed.ensures, c.whole_block.ensures)

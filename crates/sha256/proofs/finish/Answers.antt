@@ -1,10 +1,6 @@
 -- `sha256::finish` meets its contract: the loop takes in the padded rest, block after block. Assumes nothing.
-use borrow.Author.Rules.{rules}
+use Rattle.std.proofs.Common.{refl, sym, ◌∙◌, add-one, length, arith, rules}
 use borrow.Author.Tests.{lt-leb}
-use mathlib.Core.Path.{refl, sym, ◌∙◌}
-use native.Mathlib.Numerals.{add-one}
-use native.Mathlib.Omega.{arith}
-use lib.ListN.{length}
 use Rattle.sha256.specs.Sha256.{hashed}
 use Rattle.sha256.proofs.Answers.{finish_short}
 use Rattle.sha256.proofs.Padding.{hashed_finished}
@@ -15,15 +11,15 @@ returns-then-rest-gt8192 c = let m = c.args.rest.now in rw (lt-leb (length m) 81
 
 pub loop-i-init : goal.loop-i-init
 unfolding hashed
-loop-i-init c = (search rules, refl)
+loop-i-init c = refl
 
 pub loop-i-preserved : goal.loop-i-preserved
 unfolding hashed
-loop-i-preserved c = (omega arith, simp (add-one, c.compressed-v.ensures, c.padded_block-b.ensures, c.loop-i.invariant.1))
+loop-i-preserved c = simp (add-one, c.compressed-next.ensures, c.padded_block.ensures, c.loop-i.invariant)
 
 pub returns : goal.returns
 returns c =
     let l = c.loop-i in
     let a = c.args in
     let m = a.rest.now in
-    l.invariant.1 ∙ hashed_finished a.h a.before m l.i (omega arith) (omega arith) ∙ sym (finish_short m _ _ (omega arith))
+    l.invariant ∙ hashed_finished a.h a.before m l.i (omega arith) (omega arith) ∙ sym (finish_short m _ _ (omega arith))

@@ -1,17 +1,14 @@
 -- `sha256::padded_word` meets its contract: the word lies in the message, or is the count's last, or has zeros only, or has the mark. Assumes nothing.
-use mathlib.Core.Path.{sym, ◌∙◌}
-use native.Mathlib.Omega.{arith}
+use Rattle.std.proofs.Common.{sym, ◌∙◌, arith}
+use Rattle.octets.proofs.Layouts.{number_4}
 use Rattle.sha256.specs.Sha256.{padded}
-use Rattle.sha256.proofs.Blocks.{word_get_d, word_first}
+use Rattle.sha256.proofs.Blocks.{word_first}
 use Rattle.sha256.proofs.Padding.{word_count, word_zero, word_marked}
 use Rattle.sha256.proofs.padded_word.Goals as goal
 
 pub returns-then-i-len : goal.returns-then-i-len
 unfolding padded
-returns-then-i-len c =
-    let a = c.args in
-    let m = a.rest.now in
-    c.word_of.ensures ∙ sym (word_first m _ a.i (omega arith) ∙ word_get_d m a.i (omega arith))
+returns-then-i-len c = let a = c.args in c.word_at.ensures ∙ sym (word_first a.rest.now _ a.i (omega arith))
 
 pub returns-then-i-len-2 : goal.returns-then-i-len-2
 returns-then-i-len-2 c = let a = c.args in sym (word_count a.n a.rest.now (omega arith) (omega arith) a.i (omega arith))
@@ -22,4 +19,5 @@ returns-then-i-len-3 c = let a = c.args in sym (word_zero a.n a.rest.now (omega 
 pub returns : goal.returns
 returns c =
     let a = c.args in
+    let e = number_4 c.message_byte.result c.message_byte-2.result c.message_byte-3.result c.message_byte-4.result in
     cc (word_marked a.n a.rest.now (omega arith) (omega arith) a.i (omega arith))
