@@ -22,11 +22,11 @@ use Rattle.filter.proofs.Lawful.{lawful_none, none_lawful, passed}
 
 -- ---- families and actions have one value each
 
-family_back : (f : Family) → family_of (family_number f) ≡ f
+pub family_back : (f : Family) → family_of (family_number f) ≡ f
 family_back Ipv4 = refl
 family_back Ipv6 = refl
 
-action_back : (a : Action) → action_of (action_number a) ≡ a
+pub action_back : (a : Action) → action_of (action_number a) ≡ a
 action_back Deny = refl
 action_back Permit = refl
 
