@@ -194,9 +194,11 @@ def proof_of(crate, file, text):
     module = pathlib.Path(file).stem
     folders = ["proofs"] if module in ("lib", "main") else ["proofs", module]
     found = []
-    for one in re.finditer(r"(?ms)^( *)[^\n]*\bfn (\w+)\b.*?^\1\{\n(.*?)^\1\}$", source):
+    for one in re.finditer(r"(?ms)^( *)[^\n]*\bfn (\w+)\b(?:[^\n]*|.*?^\1)\{\n(.*?)^\1\}$", source):
         if text in one[3]:
-            types = re.findall(r"(?m)^impl (\w+)", source[: one.start()])[-1:] if one[1] else []
+            # of a trait `impl Tr<A> for T` it is `TTrA`
+            impls = re.findall(r"(?m)^impl (?:(\w+)(?:<(\w+)>)? for )?(\w+)", source[: one.start()])[-1:] if one[1] else []
+            types = ["".join(word[:1].upper() + word[1:] for word in (name, trait, of)) for trait, of, name in impls]
             found.append("/".join([*folders, *types, one[2]]))
     return found[0] if len(found) == 1 and source.count(text) == 1 else None
 

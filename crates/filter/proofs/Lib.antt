@@ -1,5 +1,3 @@
-pub mod Calls
-pub mod Copies
 pub mod Fields
 pub mod Lawful
 pub mod Numbers

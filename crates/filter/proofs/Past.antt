@@ -1,19 +1,17 @@
--- A bit past a length is set exactly when one is in the first byte or in the bytes after it; and the low k bits of a number are clear
+-- A bit past a length is set exactly when something is left once the bits before it are shifted out; and the low k bits of a number are clear
 -- exactly when it is 0 modulo 2 ^ k. Assumes nothing.
 use mathlib.Core.Path.{◌≡◌, refl, sym, ap, ap₂, ◌∙◌}
-use mathlib.Core.Bool.{Bool, true, false, not, ◌||◌}
-use mathlib.Core.List.{List, [], ◌∷◌}
+use mathlib.Core.Bool.{Bool, true, false, cond, not}
+use mathlib.Core.List.{List}
 use Prim.Native.Nat.{ℕ, zero, suc, ◌+◌, ◌-◌, ◌*◌, ◌/◌, ◌%◌, ◌^◌, ◌≤◌, ◌<◌}
-use native.Mathlib.Nat.{mod-eq_of_lt, mul-add-mod_self_right, mul_assoc, one-mul, zero-mul, suc-mul, mod-one, zero-mod, zero-add}
-use native.Mathlib.Numerals.{add-one, one-add}
+use native.Mathlib.Nat.{add-zero, mul-mod_left, zero-mul, suc-mul, mod-one, zero-mod}
+use native.Mathlib.Numerals.{one-add}
 use native.Mathlib.Omega.{arith}
-use lib.Dec.{eqb, leb}
-use lib.ListN.{length, get_or, drop, drop_of_length-le}
-use lib.Seq.{drop-cons, get_or-drop}
-use lib.Pow.{pow_pos, pow-lt, pow-add, mod-pow-add, mod-mod-pow, high}
-use borrow.Author.Tests.{eq-eqb, ne_eqb, eqb-true, eqb-false, leb-true, leb-false, not-false}
-use Rattle.octets.specs.Layout.{join, Fit, octets, number}
-use Rattle.octets.proofs.Layouts.{number_cons, number_below, fit_bytes}
+use lib.Dec.{eqb, ltb}
+use lib.ListN.{length}
+use lib.Pow.{pow_pos, mod-pow-add, mod-mod-pow, shl-shr}
+use borrow.Author.Tests.{eq-eqb, ne_eqb, eqb-true, eqb-false, ltb-true, ltb-false, not-false}
+use Rattle.octets.specs.Layout.{number}
 use Rattle.filter.specs.Filter.{set_past, bit}
 
 -- a number of two digits is 0 exactly when both are
@@ -21,46 +19,31 @@ both_zero : (x P y : ℕ) → 0 < P → x * P + y ≡ 0 → (x ≡ 0) × (y ≡ 
 both_zero zero P y h e = (refl, omega (arith, zero-mul P))
 both_zero (suc x) P y h e = absurd (omega (arith, suc-mul x P))
 
--- the bits past the first l of b ∷ q: those of b, then those of q past l - 8
-past_cons : (b l : ℕ) (q : List ℕ) → number q < 2 ^ (8 * length q)
-    → number (b ∷ q) % 2 ^ (8 * suc (length q) - l) ≡ (b % 2 ^ (8 - l)) * 2 ^ (8 * length q - (l - 8)) + number q % 2 ^ (8 * length q - (l - 8))
-past_cons b l q h =
-    ap₂ (λ (x y : ℕ). x % 2 ^ y) (number_cons b q) (let e : 8 * suc n - l ≡ (8 - l) + k = omega arith in e)
-    ∙ mod-pow-add (b * 2 ^ (8 * n) + j) (8 - l) k
-    ∙ ap₂ (λ (x y : ℕ). x * 2 ^ k + y) (first (leb 8 l) refl) rest
-  where
-    n : ℕ
-    n = length q
+-- what is left of n when of 128 bits the first l are shifted out
+shifted : (n l : ℕ) → l < 128 → n * 2 ^ l % 2 ^ 128 ≡ n % 2 ^ (128 - l) * 2 ^ l
+shifted n l h =
+    let d : 128 ≡ (128 - l) + l = omega arith in
+    ap (λ (x : ℕ). n * 2 ^ l % 2 ^ x) d ∙ mod-pow-add (n * 2 ^ l) (128 - l) l
+    ∙ ap₂ (λ (x y : ℕ). x % 2 ^ (128 - l) * 2 ^ l + y) (shl-shr n l) (mul-mod_left n (2 ^ l)) ∙ add-zero _
 
-    j : ℕ
-    j = number q
+shifted_zero : (x l : ℕ) → (t : Bool) → eqb x 0 ≡ t → eqb (x * 2 ^ l) 0 ≡ t
+shifted_zero x l true e = ap (λ (y : ℕ). eqb (y * 2 ^ l) 0) (eqb-true x 0 e) ∙ ap (λ (y : ℕ). eqb y 0) (zero-mul (2 ^ l))
+shifted_zero x l false e = ne_eqb (x * 2 ^ l) 0 (λ z. eqb-false x 0 e (both_zero x (2 ^ l) 0 (pow_pos l) (add-zero _ ∙ z)).0)
 
-    k : ℕ
-    k = 8 * n - (l - 8)
-
-    first : (t : Bool) → leb 8 l ≡ t → (b * 2 ^ (8 * n) + j) / 2 ^ k % 2 ^ (8 - l) ≡ b % 2 ^ (8 - l)
-    first true t = let z : 8 - l ≡ 0 = omega (arith, leb-true 8 l t) in rw z (mod-one _ ∙ sym (mod-one b))
-    first false t = let z : k ≡ 8 * n = omega (arith, leb-false 8 l t) in rw z (rw (high b (8 * n) h) refl)
-
-    rest : (b * 2 ^ (8 * n) + j) % 2 ^ k ≡ j % 2 ^ k
-    rest =
-        let d : 8 * n ≡ (8 * n - k) + k = omega arith in
-        ap (λ (x : ℕ). (b * x + j) % 2 ^ k) (ap (λ (x : ℕ). 2 ^ x) d ∙ pow-add 2 (8 * n - k) k)
-        ∙ ap (λ (x : ℕ). (x + j) % 2 ^ k) (sym (mul_assoc b (2 ^ (8 * n - k)) (2 ^ k)))
-        ∙ mul-add-mod_self_right (b * 2 ^ (8 * n - k)) (2 ^ k) j
-
-sum_set : (x P y : ℕ) → 0 < P → (t : Bool) → eqb x 0 ≡ t → not (eqb (x * P + y) 0) ≡ (not (eqb x 0) || not (eqb y 0))
-sum_set x P y h true e = rw (eqb-true x 0 e) (simp (zero-mul P, zero-add y))
-sum_set x P y h false e = simp (e, ne_eqb (x * P + y) 0 (λ z. eqb-false x 0 e (both_zero x P y h z).0))
-
--- whether a bit is set, by the first byte
-pub set_cons : (b l : ℕ) (q : List ℕ) → number q < 2 ^ (8 * length q) → set_past (b ∷ q) l ≡ (not (eqb (b % 2 ^ (8 - l)) 0) || set_past q (l - 8))
+-- the bits past the first l are what is left of the number
+pub set_shifted : (p : List ℕ) (l : ℕ) → length p ≡ 16 → not (eqb (cond (ltb l 128) (number p * 2 ^ l % 2 ^ 128) 0) 0) ≡ set_past p l
 unfolding set_past
-set_cons b l q h = rw (past_cons b l q h) (sum_set (b % 2 ^ (8 - l)) _ _ (pow_pos (8 * length q - (l - 8))) _ refl)
-
-pub set_none : (l : ℕ) → set_past [] l ≡ false
-unfolding set_past number join
-set_none l = simp (zero-mod (2 ^ (8 * 0 - l)))
+set_shifted p l n = go (ltb l 128) refl
+  where
+    go : (t : Bool) → ltb l 128 ≡ t → not (eqb (cond t (number p * 2 ^ l % 2 ^ 128) 0) 0) ≡ not (eqb (number p % 2 ^ (8 * length p - l)) 0)
+    go true e =
+        let d : 128 - l ≡ 8 * length p - l = omega arith in
+        ap not
+        (ap (λ (x : ℕ). eqb x 0) (shifted (number p) l (ltb-true l 128 e)) ∙ shifted_zero (number p % 2 ^ (128 - l)) l _ refl
+        ∙ ap (λ (x : ℕ). eqb (number p % 2 ^ x) 0) d)
+    go false e =
+        let z : 0 ≡ 8 * length p - l = omega (arith, ltb-false l 128 e) in
+        ap (λ (x : ℕ). not (eqb x 0)) (sym (mod-one (number p)) ∙ ap (λ (x : ℕ). number p % 2 ^ x) z)
 
 -- bit by bit
 pub bits_clear : (k n : ℕ) → ((i : ℕ) → i < k → n / 2 ^ i % 2 ≡ 0) → n % 2 ^ k ≡ 0
@@ -88,30 +71,3 @@ bits_past p l n h =
     let turned : (i : ℕ) → i < 8 * length p - l → number p / 2 ^ i % 2 ≡ 0 =
     λ i g. (let e : 127 - (127 - i) ≡ i = omega arith in rw e at (h (127 - i) (omega arith) (omega arith))) in
     simp (eq-eqb _ 0 (bits_clear (8 * length p - l) (number p) turned))
-
--- what the code shifts and tests at a byte
-pub shifted : (l : ℕ) → 1 * 2 ^ (8 - l) % 65536 ≡ 2 ^ (8 - l)
-shifted l =
-    let h : 2 ^ (8 - l) < 2 ^ 16 = pow-lt {i = 8 - l} {j = 16} (omega arith) in
-    ap (λ (x : ℕ). x % 65536) (one-mul (2 ^ (8 - l))) ∙ mod-eq_of_lt h
-
-pub none_left : (b l : ℕ) → 8 ≤ l → not (eqb (b % 2 ^ (8 - l)) 0) ≡ false
-none_left b l h = let k : 8 - l ≡ 0 = omega arith in rw k (simp (mod-one b))
-
--- one turn over the bytes p, at byte i with l bits left
-module _ (p : List ℕ) (g : (i : ℕ) → get_or p i 0 < 2 ^ 8) (i l : ℕ) (h : i < length p) where
-  turn : set_past (drop i p) l ≡ (not (eqb (get_or p i 0 % 2 ^ (8 - l)) 0) || set_past (drop (i + 1) p) (l - 8))
-  turn =
-      let q : List ℕ = drop (i + 1) p in
-      let f : Fit (octets (length q)) q = fit_bytes (length q) q refl (λ k. rw (get_or-drop (i + 1) p k 0) (g (i + 1 + k))) in
-      ap (λ (x : List ℕ). set_past x l) (drop-cons p i 0 h ∙ ap (λ (k : ℕ). get_or p i 0 ∷ drop k p) (sym (add-one i)))
-      ∙ set_cons (get_or p i 0) l q (number_below (length q) f)
-
-  pub turn_set : not (eqb (get_or p i 0 % 2 ^ (8 - l)) 0) ≡ true → set_past (drop i p) l ≡ true
-  turn_set t = turn ∙ simp t
-
-  pub turn_clear : not (eqb (get_or p i 0 % 2 ^ (8 - l)) 0) ≡ false → set_past (drop i p) l ≡ set_past (drop (i + 1) p) (l - 8)
-  turn_clear t = turn ∙ simp t
-
-pub turn_end : (p : List ℕ) (i l : ℕ) → length p ≤ i → set_past (drop i p) l ≡ false
-turn_end p i l h = ap (λ (x : List ℕ). set_past x l) (drop_of_length-le p {i = i} h) ∙ set_none l

@@ -10,33 +10,23 @@ use borrow.Author.Tests.{eq-eqb, eqb-true, not-false}
 use Rattle.octets.specs.Layout.{total, join, split, Fit, none, more, octets, number, bytes}
 use Rattle.octets.proofs.Layouts.{join_below, split_fits, split_join, join_split, fit_each, fit_length, number_bytes, number_below, bytes_number, bytes_length}
 use Rattle.refusal.specs.Refusal.{Filled, filled}
-use Rattle.filter.specs.Filter.{widths, parts_in, parts_of, filter_of, family_number, action_number, family_of, action_of, bytes_of, filter_in, spare_in, FieldsFit, BytesFit, Lawful, LawfulBytes, pack_rows, unpack_rows, pack_of, unpacked, unpack_of}
+use Rattle.filter.specs.Filter.{widths, parts_in, parts_of, filter_of, family_number, action_number, family_of, action_of, bytes_of, filter_in, spare_in, FieldsFit, BytesFit, Lawful, LawfulBytes, pack_rows, unpack_rows, pack_of, Unpacked, unpacked, unpack_of}
 use Rattle.filter.specs.Promises.{OneToOne}
 use Rattle.filter.specs.declared.FilterRecord.{FilterRecord}
-use Rattle.filter.specs.declared.Unpacked.{Unpacked}
 use Rattle.filter.specs.declared.Family.{Family}
 use Rattle.filter.specs.declared.Family.TheVariants.{Ipv4, Ipv6}
 use Rattle.filter.specs.declared.Action.{Action}
 use Rattle.filter.specs.declared.Action.TheVariants.{Deny, Permit}
-use Rattle.filter.proofs.Fields.{same_fields}
+use Rattle.filter.proofs.Fields.{same_fields, family_below, action_below}
 use Rattle.filter.proofs.Lawful.{lawful_none, none_lawful, passed}
-use Rattle.filter.proofs.Calls.{pack_done, unpack_done}
 
 -- ---- families and actions have one value each
 
-family_below : (f : Family) → family_number f < 2
-family_below Ipv4 = omega arith
-family_below Ipv6 = omega arith
-
-action_below : (a : Action) → action_number a < 2
-action_below Deny = omega arith
-action_below Permit = omega arith
-
-family_back : (f : Family) → family_of (family_number f) ≡ f
+pub family_back : (f : Family) → family_of (family_number f) ≡ f
 family_back Ipv4 = refl
 family_back Ipv6 = refl
 
-action_back : (a : Action) → action_of (action_number a) ≡ a
+pub action_back : (a : Action) → action_of (action_number a) ≡ a
 action_back Deny = refl
 action_back Permit = refl
 
@@ -121,10 +111,12 @@ prefix_length k = fit_length k.prefix
 
 -- what pack gives for a lawful filter record, and unpack for lawful bytes
 pub packs : (r : FilterRecord) (out : List ℕ) → FieldsFit r → Lawful r → length out ≡ 28 → pack_of r out ≡ filled 0 (bytes_of r)
-packs r out k l n = sym (pack_done r out n (lawful_none r (prefix_length k) l))
+unfolding pack_of pack_rows
+packs r out k l n = simp (eq-eqb _ _ n, lawful_none r (prefix_length k) l)
 
 pub unpacks : (bs : List ℕ) → LawfulBytes bs → unpack_of bs ≡ unpacked 0 (filter_in bs)
-unpacks bs l = sym (unpack_done bs l.size l.spare (lawful_none (filter_in bs) (prefix_length (filter_in_fit bs)) l.filter))
+unfolding unpack_of unpack_rows
+unpacks bs l = simp (eq-eqb _ _ l.size, eq-eqb _ _ l.spare, lawful_none (filter_in bs) (prefix_length (filter_in_fit bs)) l.filter)
 
 bytes_lawful : (r : FilterRecord) → FieldsFit r → Lawful r → LawfulBytes (bytes_of r)
 bytes_lawful r k l = record { size = bytes_of_length r; spare = spare_held r k; filter = rw (filter_held r k) l }

@@ -8,7 +8,6 @@ use Rattle.filter.specs.declared.Family.TheVariants.{Ipv4, Ipv6}
 use Rattle.filter.specs.declared.Action.{Action}
 use Rattle.filter.specs.declared.Action.TheVariants.{Deny, Permit}
 use Rattle.filter.specs.declared.FilterRecord.{FilterRecord}
-use Rattle.filter.specs.declared.Unpacked.{Unpacked}
 
 -- ---- 01, "The filter record": the layout
 
@@ -123,6 +122,11 @@ pack_of r out = fills (pack_rows r out) (bytes_of r) out
 -- all fields zero
 abbrev pub zero_filter : FilterRecord
 zero_filter = record { family = family_of 0; action = action_of 0; length = 0; longest = 0; member = 0; serial = 0; prefix = replicate 16 0 }
+
+-- what unpack gives: its number, and a filter record
+pub record Unpacked : Type 0 where
+  pub number : ℕ
+  pub filter : FilterRecord
 
 abbrev pub unpacked : ℕ → FilterRecord → Unpacked
 unpacked n r = record { number = n; filter = r }

@@ -6,12 +6,11 @@
 use Rattle.std.specs.Prelude.{◌≡◌, List, [], ◌∷◌, ◌↔◌, ◌≢◌, ℕ, ◌<◌, ◌≤◌, length, replicate}
 use Rattle.refusal.specs.Refusal.{Filled, filled}
 use Rattle.refusal.specs.Cases.{Case, given, FirstOf}
-use Rattle.filter.specs.Filter.{bit, spare_in, filter_in, FieldsFit, BytesFit, Lawful, LawfulBytes, unpacked}
+use Rattle.filter.specs.Filter.{bit, spare_in, filter_in, FieldsFit, BytesFit, Lawful, LawfulBytes, Unpacked, unpacked}
 use Rattle.filter.specs.declared.Family.{Family}
 use Rattle.filter.specs.declared.Family.TheVariants.{Ipv4, Ipv6}
 use Rattle.filter.specs.declared.Action.TheVariants.{Deny}
 use Rattle.filter.specs.declared.FilterRecord.{FilterRecord}
-use Rattle.filter.specs.declared.Unpacked.{Unpacked}
 
 -- the lengths in order and within the family's, and no bit set past the prefix length
 abbrev pub Within : Family → ℕ → Type 0

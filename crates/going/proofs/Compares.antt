@@ -2,7 +2,8 @@
 use mathlib.Core.Path.{◌≡◌, refl, sym, ap, subst, ◌∙◌}
 use mathlib.Core.Bool.{Bool, true, false, not, cond}
 use mathlib.Core.Logic.{◌↔◌, ◌⊎◌, inl, inr, ⊎_elim, ⊎_map}
-use mathlib.Core.Option.{some, some-injective, none-ne-some}
+use Rattle.std.specs.Prelude.{Option, Some, None}
+use Rattle.std.proofs.lemmas.Option.{none-some, same_Some}
 use Prim.Native.Nat.{ℕ, zero, suc, ◌+◌, ◌-◌, ◌^◌, ◌<◌, zero-le}
 use native.Mathlib.Omega.{arith}
 use lib.Dec.{eqb, ltb, T, lt→ltb, le→leb}
@@ -13,10 +14,8 @@ use Rattle.filter.specs.declared.FilterRecord.{FilterRecord}
 use Rattle.serials.specs.Order.{Serial, Less, Apart}
 use Rattle.serials.specs.Distance.{IsDistance, distance_of}
 use Rattle.serials.specs.Claims.{Distances, Measures}
-use Rattle.serials.specs.declared.Measured.{Measured}
-use Rattle.serials.specs.declared.Measured.TheVariants.{Distance, Opposite}
 use Rattle.serials.proofs.Distances.{rfc1982, exact}
-use Rattle.going.specs.Going.{directed, of_measured, going_of, Says, going_number, going_distance, exchanged, plain_of, Compared, Compares}
+use Rattle.going.specs.Going.{directed, of_distance, going_of, Says, going_number, going_distance, exchanged, plain_of, Compared, Compares}
 use Rattle.going.specs.declared.Going.{Going}
 use Rattle.going.specs.declared.Going.TheVariants.{OtherMember, NoOrder, Back, Forward}
 use Rattle.going.proofs.Members.{other_member, same_member}
@@ -58,22 +57,22 @@ module _ (held offered : FilterRecord) (h : Serial held.serial) (o : Serial offe
   -- ---- an answer that is true is given
 
   measured : held.member ≡ offered.member → (d : ℤ) → IsDistance held.serial offered.serial d → going_of held offered ≡ directed d
-  unfolding of_measured
-  measured m d i = same_member held offered m ∙ ap of_measured ((x.distance d).1 i)
+  unfolding of_distance
+  measured m d i = same_member held offered m ∙ ap of_distance ((x.distance d).1 i)
 
   given : (g : Going) → Says g held offered → going_of held offered ≡ g
-  unfolding of_measured
+  unfolding of_distance
   given OtherMember s = other_member held offered s
-  given NoOrder s = same_member held offered s.0 ∙ ap of_measured (x.opposite.1 s.1)
+  given NoOrder s = same_member held offered s.0 ∙ ap of_distance (x.opposite.1 s.1)
   given (Back d) s = measured s.0 d s.1 ∙ by_sign (λ g. g ≡ Back d) d (λ b. refl) (λ f. clash_ℤ s.2 f)
   given (Forward d) s = measured s.0 d s.1 ∙ by_sign (λ g. g ≡ Forward d) d (λ b. clash_ℤ b s.2) (λ f. refl)
 
   -- ---- the answer given is true
 
-  told : held.member ≡ offered.member → (m : Measured) → distance_of held.serial offered.serial ≡ m → Says (of_measured m) held offered
-  unfolding of_measured
-  told e (Distance d) f = by_sign (λ g. Says g held offered) d (λ b. (e, (x.distance d).0 f, b)) (λ b. (e, (x.distance d).0 f, b))
-  told e Opposite f = (e, x.opposite.0 f)
+  told : held.member ≡ offered.member → (m : Option ℤ) → distance_of held.serial offered.serial ≡ m → Says (of_distance m) held offered
+  unfolding of_distance
+  told e (Some d) f = by_sign (λ g. Says g held offered) d (λ b. (e, (x.distance d).0 f, b)) (λ b. (e, (x.distance d).0 f, b))
+  told e None f = (e, x.opposite.0 f)
 
   said : Says (going_of held offered) held offered
   said = go (eqb held.member offered.member) refl
@@ -104,17 +103,17 @@ module _ (held offered : FilterRecord) (h : Serial held.serial) (o : Serial offe
       let i = r.exists.1 (λ a. let n = r.no_order.0 a in ⊎_elim n.0 n.1 q) in
       (i.0, given (Forward i.0) (m, i.1, (not_negative i.0).1 (⊎_map (r.equal i.0 i.1).1 (r.forward i.0 i.1).1 q)))
 
-  number : (n : ℕ) (g : Going) → Says g held offered → going_number g ≡ some n → (n ≡ 16) × (held.member ≡ offered.member) × Apart held.serial offered.serial
-  number n OtherMember s e = absurd (none-ne-some n e)
-  number n NoOrder s e = (sym (some-injective 16 n e), s.0, s.1)
-  number n (Back d) s e = absurd (none-ne-some n e)
-  number n (Forward d) s e = absurd (none-ne-some n e)
+  number : (n : ℕ) (g : Going) → Says g held offered → going_number g ≡ Some n → (n ≡ 16) × (held.member ≡ offered.member) × Apart held.serial offered.serial
+  number n OtherMember s e = absurd (none-some n e)
+  number n NoOrder s e = (sym (same_Some 16 n e), s.0, s.1)
+  number n (Back d) s e = absurd (none-some n e)
+  number n (Forward d) s e = absurd (none-some n e)
 
-  distance : (d : ℤ) (g : Going) → Says g held offered → going_distance g ≡ some d → (held.member ≡ offered.member) × IsDistance held.serial offered.serial d
-  distance d OtherMember s e = absurd (none-ne-some d e)
-  distance d NoOrder s e = absurd (none-ne-some d e)
-  distance d (Back b) s e = (s.0, subst (IsDistance held.serial offered.serial) (some-injective b d e) s.1)
-  distance d (Forward f) s e = (s.0, subst (IsDistance held.serial offered.serial) (some-injective f d e) s.1)
+  distance : (d : ℤ) (g : Going) → Says g held offered → going_distance g ≡ Some d → (held.member ≡ offered.member) × IsDistance held.serial offered.serial d
+  distance d OtherMember s e = absurd (none-some d e)
+  distance d NoOrder s e = absurd (none-some d e)
+  distance d (Back b) s e = (s.0, subst (IsDistance held.serial offered.serial) (same_Some b d e) s.1)
+  distance d (Forward f) s e = (s.0, subst (IsDistance held.serial offered.serial) (same_Some f d e) s.1)
 
   plain : held.serial < offered.serial + 2 ^ 31 → offered.serial < held.serial + 2 ^ 31 → going_of held offered ≡ plain_of held offered
   plain a b = go (eqb held.member offered.member) refl
@@ -131,10 +130,10 @@ module _ (held offered : FilterRecord) (h : Serial held.serial) (o : Serial offe
       (λ p. let s = true_of (Forward p.0) p.1 in (s.0, ⊎_map (r.equal p.0 s.1).0 (r.forward p.0 s.1).0 ((not_negative p.0).0 s.2))),
       forward,
     );
-    number = λ n. (number n (going_of held offered) said, (λ p. ap going_number (given NoOrder (p.1, p.2)) ∙ ap some (sym p.0)));
+    number = λ n. (number n (going_of held offered) said, (λ p. ap going_number (given NoOrder (p.1, p.2)) ∙ ap Some (sym p.0)));
     distance = λ d. (
       distance d (going_of held offered) said,
-      (λ p. ap going_distance (measured p.0 d p.1) ∙ by_sign (λ g. going_distance g ≡ some d) d (λ b. refl) (λ f. refl)),
+      (λ p. ap going_distance (measured p.0 d p.1) ∙ by_sign (λ g. going_distance g ≡ Some d) d (λ b. refl) (λ f. refl)),
     );
     exchange = e;
     plain = plain;

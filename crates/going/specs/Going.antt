@@ -1,13 +1,10 @@
 -- 01, "Going back": of a filter record held and one offered.
 -- Assumes nothing.
-use Rattle.std.specs.Prelude.{◌≡◌, cond, not, ◌↔◌, ◌⊎◌, ◌≢◌, ℕ, ◌+◌, ◌^◌, ◌<◌, eqb, ltb, ℤ, pos, neg_ℤ, ◌-ℤ◌, ◌<ℤ◌, ◌≤ℤ◌}
-use Rattle.std.proofs.Math.Option.{Option, some, none}
+use Rattle.std.specs.Prelude.{◌≡◌, cond, not, ◌↔◌, ◌⊎◌, ◌≢◌, ℕ, ◌+◌, ◌^◌, ◌<◌, eqb, ltb, ℤ, pos, neg_ℤ, ◌-ℤ◌, ◌<ℤ◌, ◌≤ℤ◌, Option, Some, None}
 use Rattle.std.specs.Int.Signed.{lt_z}
 use Rattle.filter.specs.declared.FilterRecord.{FilterRecord}
 use Rattle.serials.specs.Order.{Serial, Less, Apart}
 use Rattle.serials.specs.Distance.{IsDistance, distance_of}
-use Rattle.serials.specs.declared.Measured.{Measured}
-use Rattle.serials.specs.declared.Measured.TheVariants.{Distance, Opposite}
 use Rattle.going.specs.declared.Going.{Going}
 use Rattle.going.specs.declared.Going.TheVariants.{OtherMember, NoOrder, Back, Forward}
 
@@ -15,12 +12,12 @@ use Rattle.going.specs.declared.Going.TheVariants.{OtherMember, NoOrder, Back, F
 unfoldable pub directed : ℤ → Going
 directed d = cond (lt_z d (pos 0)) (Back d) (Forward d)
 
-unfoldable pub of_measured : Measured → Going
-of_measured (Distance d) = directed d
-of_measured Opposite = NoOrder
+unfoldable pub of_distance : Option ℤ → Going
+of_distance (Some d) = directed d
+of_distance None = NoOrder
 
 unfoldable pub going_of : FilterRecord → FilterRecord → Going
-going_of held offered = cond (not (eqb held.member offered.member)) OtherMember (of_measured (distance_of held.serial offered.serial))
+going_of held offered = cond (not (eqb held.member offered.member)) OtherMember (of_distance (distance_of held.serial offered.serial))
 
 -- ---- what each answer says, its number and its distance
 
@@ -32,16 +29,16 @@ Says (Forward d) held offered = (held.member ≡ offered.member) × IsDistance h
 
 -- 01, "Numbers given back": row 16 is a comparison's only number; row 0 leaves it out
 abbrev pub going_number : Going → Option ℕ
-going_number OtherMember = none
-going_number NoOrder = some 16
-going_number (Back d) = none
-going_number (Forward d) = none
+going_number OtherMember = None
+going_number NoOrder = Some 16
+going_number (Back d) = None
+going_number (Forward d) = None
 
 abbrev pub going_distance : Going → Option ℤ
-going_distance OtherMember = none
-going_distance NoOrder = none
-going_distance (Back d) = some d
-going_distance (Forward d) = some d
+going_distance OtherMember = None
+going_distance NoOrder = None
+going_distance (Back d) = Some d
+going_distance (Forward d) = Some d
 
 -- the answer with held and offered exchanged
 abbrev pub exchanged : Going → Going
@@ -65,9 +62,9 @@ pub record Compared (c : FilterRecord → FilterRecord → Going) (held offered 
   pub back : ((d : ℤ) × (c held offered ≡ Back d)) ↔ ((held.member ≡ offered.member) × Less offered.serial held.serial)
   pub forward : ((d : ℤ) × (c held offered ≡ Forward d)) ↔ ((held.member ≡ offered.member) × ((held.serial ≡ offered.serial) ⊎ Less held.serial offered.serial))
   -- 16 exactly when the member is the same and the serials are 2^31 apart, and no other number
-  pub number : (n : ℕ) → (going_number (c held offered) ≡ some n) ↔ ((n ≡ 16) × (held.member ≡ offered.member) × Apart held.serial offered.serial)
+  pub number : (n : ℕ) → (going_number (c held offered) ≡ Some n) ↔ ((n ≡ 16) × (held.member ≡ offered.member) × Apart held.serial offered.serial)
   -- a distance exactly when the member is the same and it is the distance
-  pub distance : (d : ℤ) → (going_distance (c held offered) ≡ some d) ↔ ((held.member ≡ offered.member) × IsDistance held.serial offered.serial d)
+  pub distance : (d : ℤ) → (going_distance (c held offered) ≡ Some d) ↔ ((held.member ≡ offered.member) × IsDistance held.serial offered.serial d)
   -- with held and offered exchanged the distance is negated, and an answer without one stays
   pub exchange : c offered held ≡ exchanged (c held offered)
   -- nothing changes for serials that are less than 2^31 apart as plain numbers, as all below 2^31 are

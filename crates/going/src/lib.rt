@@ -2,10 +2,9 @@
 #![tactic(auto)]
 
 ghost use Rattle.std.specs.Prelude.{◌≡◌};
-ghost use Rattle.going.specs.Going.{directed, of_measured, going_of};
+ghost use Rattle.going.specs.Going.{going_of};
 
 use filter::FilterRecord;
-use serials::Measured;
 
 #[derive(Clone, Copy)]
 pub enum Going {
@@ -22,23 +21,9 @@ pub fn compare(held: FilterRecord, offered: FilterRecord) -> Going
     if held.member != offered.member {
         return Going::OtherMember;
     }
-    of_measured(serials::distance(held.serial, offered.serial))
-}
-
-fn of_measured(m: Measured) -> Going
-    ensures { result ≡ of_measured m }
-{
-    match m {
-        Measured::Distance(d) => direction(d),
-        Measured::Opposite => Going::NoOrder,
+    match serials::distance(held.serial, offered.serial) {
+        None => Going::NoOrder,
+        Some(d) if d < 0 => Going::Back(d),
+        Some(d) => Going::Forward(d),
     }
-}
-
-fn direction(d: i32) -> Going
-    ensures { result ≡ directed d }
-{
-    if d < 0 {
-        return Going::Back(d);
-    }
-    Going::Forward(d)
 }

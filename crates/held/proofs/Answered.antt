@@ -1,7 +1,8 @@
 -- What a comparison answers and writes, case by case. Assumes nothing.
-use mathlib.Core.Path.{◌≡◌, refl, ap}
+use mathlib.Core.Path.{◌≡◌, refl, sym, ap}
 use mathlib.Core.Logic.{◌↔◌}
-use mathlib.Core.Option.{some, none, some-injective, none-ne-some, some-ne-none}
+use Rattle.std.specs.Prelude.{Some, None}
+use Rattle.std.proofs.lemmas.Option.{none-some, same_Some}
 use native.Mathlib.Omega.{arith}
 use lib.IntN.{ℤ}
 use Rattle.going.specs.Going.{going_number, going_distance}
@@ -29,21 +30,21 @@ other_member (Back d) e = absurd (omega (arith, e))
 other_member OtherMember e = refl
 other_member NoOrder e = absurd (omega (arith, e))
 
-no_order : (g : Going) → (going_answer g ≡ 16) ↔ (going_number g ≡ some 16)
-no_order (Forward d) = ((λ e. absurd (omega (arith, e))), (λ e. absurd (none-ne-some 16 e)))
-no_order (Back d) = ((λ e. absurd (omega (arith, e))), (λ e. absurd (none-ne-some 16 e)))
-no_order OtherMember = ((λ e. absurd (omega (arith, e))), (λ e. absurd (none-ne-some 16 e)))
+no_order : (g : Going) → (going_answer g ≡ 16) ↔ (going_number g ≡ Some 16)
+no_order (Forward d) = ((λ e. absurd (omega (arith, e))), (λ e. absurd (none-some 16 e)))
+no_order (Back d) = ((λ e. absurd (omega (arith, e))), (λ e. absurd (none-some 16 e)))
+no_order OtherMember = ((λ e. absurd (omega (arith, e))), (λ e. absurd (none-some 16 e)))
 no_order NoOrder = ((λ e. refl), (λ e. refl))
 
-written : (g : Going) (n d : ℤ) → going_distance g ≡ some d → distance_or n g ≡ d
-written (Forward f) n d e = some-injective f d e
-written (Back b) n d e = some-injective b d e
-written OtherMember n d e = absurd (none-ne-some d e)
-written NoOrder n d e = absurd (none-ne-some d e)
+written : (g : Going) (n d : ℤ) → going_distance g ≡ Some d → distance_or n g ≡ d
+written (Forward f) n d e = same_Some f d e
+written (Back b) n d e = same_Some b d e
+written OtherMember n d e = absurd (none-some d e)
+written NoOrder n d e = absurd (none-some d e)
 
-left : (g : Going) (n : ℤ) → going_distance g ≡ none → distance_or n g ≡ n
-left (Forward f) n e = absurd (some-ne-none f e)
-left (Back b) n e = absurd (some-ne-none b e)
+left : (g : Going) (n : ℤ) → going_distance g ≡ None → distance_or n g ≡ n
+left (Forward f) n e = absurd (none-some f (sym e))
+left (Back b) n e = absurd (none-some b (sym e))
 left OtherMember n e = refl
 left NoOrder n e = refl
 

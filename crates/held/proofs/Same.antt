@@ -17,12 +17,8 @@ use Rattle.state.specs.declared.Verdict.{Verdict}
 use Rattle.state.specs.declared.Verdict.TheVariants.{Accept, Stamp, Tag, Nothing}
 use Rattle.state.proofs.Table.{table}
 use Rattle.entries.specs.Tag.{tag}
-use Rattle.filter.specs.Filter.{family_number, action_number, family_of, action_of}
 use Rattle.filter.specs.declared.FilterRecord.{FilterRecord}
-use Rattle.filter.specs.declared.Family.{Family}
-use Rattle.filter.specs.declared.Family.TheVariants.{Ipv4, Ipv6}
-use Rattle.filter.specs.declared.Action.{Action}
-use Rattle.filter.specs.declared.Action.TheVariants.{Deny, Permit}
+use Rattle.filter.proofs.Trips.{family_back, action_back}
 use Rattle.held.specs.Held.{is_set, byte_of, state_of, held_of}
 use Rattle.held.specs.Fields.{record_of, fields_of}
 use Rattle.held.specs.Answers.{answer, stamp_or, in_place}
@@ -36,14 +32,6 @@ mark_back false = refl
 state_back : (s : State) → state_of (held_of s) ≡ s
 unfolding state_of held_of
 state_back s = simp (mark_back)
-
-family_back : (f : Family) → family_of (family_number f) ≡ f
-family_back Ipv4 = refl
-family_back Ipv6 = refl
-
-action_back : (a : Action) → action_of (action_number a) ≡ a
-action_back Deny = refl
-action_back Permit = refl
 
 record_back : (r : FilterRecord) → record_of (fields_of r) ≡ r
 unfolding record_of fields_of

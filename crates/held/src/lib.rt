@@ -9,7 +9,7 @@ ghost use Rattle.state.specs.Marks.{count_of};
 ghost use Rattle.state.specs.Access.{add_of, load_of, store_of, remove_of, lowest_of, free_number};
 ghost use Rattle.state.specs.Check.{check_of};
 ghost use Rattle.entries.specs.Tag.{tag};
-ghost use Rattle.filter.specs.Filter.{family_number, action_number, family_of, action_of, pack_of, unpack_of};
+ghost use Rattle.filter.specs.Filter.{pack_of, unpack_of};
 ghost use Rattle.going.specs.Going.{going_of};
 ghost use Rattle.held.specs.Held.{state_of, held_of};
 ghost use Rattle.held.specs.Fields.{record_of, fields_of};
@@ -54,6 +54,43 @@ pub struct Fields {
     pub member: u32,
     pub serial: u32,
     pub prefix: [u8; 16],
+}
+
+// 0 is IPv4, and else IPv6; 0 is deny, and else permit.
+impl From<Fields> for FilterRecord {
+    ghost from_gives = { λ f r. r ≡ record_of f };
+
+    #[tactic(auto, unfolding(crate::specs::Fields::record_of))]
+    fn from(f: Fields) -> FilterRecord {
+        let prefix = f.prefix;
+        FilterRecord {
+            family: Family::from(f.family),
+            action: Action::from(f.action),
+            length: f.length,
+            longest: f.longest,
+            member: f.member,
+            serial: f.serial,
+            prefix,
+        }
+    }
+}
+
+impl From<FilterRecord> for Fields {
+    ghost from_gives = { λ r f. f ≡ fields_of r };
+
+    #[tactic(auto, unfolding(crate::specs::Fields::fields_of))]
+    fn from(r: FilterRecord) -> Fields {
+        let prefix = r.prefix;
+        Fields {
+            family: u8::from(r.family),
+            action: u8::from(r.action),
+            length: r.length,
+            longest: r.longest,
+            member: r.member,
+            serial: r.serial,
+            prefix,
+        }
+    }
 }
 
 // What a call on a state held by value gives: its answer, and the state that is to be left.
@@ -172,7 +209,7 @@ pub fn lowest_free(h: Held, address: usize) -> Lowest
 pub fn pack(f: Fields, out: &mut [u8]) -> u8
     ensures { filled result out.new ≡ pack_of (record_of f) out.old }
 {
-    filter::pack(record_of(f), out)
+    refusal::told(filter::pack(FilterRecord::from(f), out))
 }
 
 // What unpack gives: its number, and the filter record as it is held.
@@ -186,11 +223,9 @@ pub fn unpack(bytes: &[u8]) -> Read
     ensures { (result.number ≡ (unpack_of bytes.now).number) × (result.fields ≡ fields_of (unpack_of bytes.now).filter) }
 {
     let unpacked = filter::unpack(bytes);
-    let r = unpacked.filter;
-    let fields = fields_of(r);
     Read {
-        number: unpacked.number,
-        fields,
+        number: refusal::told(unpacked.answer),
+        fields: Fields::from(unpacked.filter),
     }
 }
 
@@ -205,7 +240,7 @@ pub fn compare(held: Fields, offered: Fields, distance: i32) -> Weighed
     ensures { (result.answer ≡ going_answer (going_of (record_of held) (record_of offered)))
         × (result.distance ≡ distance_or distance (going_of (record_of held) (record_of offered))) }
 {
-    let going = going::compare(record_of(held), record_of(offered));
+    let going = going::compare(FilterRecord::from(held), FilterRecord::from(offered));
     Weighed {
         answer: going_answer(going),
         distance: distance_or(distance, going),
@@ -337,67 +372,5 @@ fn distance_or(distance: i32, g: Going) -> i32
         Going::Back(d) => d,
         Going::OtherMember => distance,
         Going::NoOrder => distance,
-    }
-}
-
-fn record_of(f: Fields) -> FilterRecord
-    ensures { result ≡ record_of f }
-{
-    let prefix = f.prefix;
-    FilterRecord {
-        family: family_of(f.family),
-        action: action_of(f.action),
-        length: f.length,
-        longest: f.longest,
-        member: f.member,
-        serial: f.serial,
-        prefix,
-    }
-}
-
-fn fields_of(r: FilterRecord) -> Fields
-    ensures { result ≡ fields_of r }
-{
-    let family = r.family;
-    let action = r.action;
-    let prefix = r.prefix;
-    Fields {
-        family: family_number(family),
-        action: action_number(action),
-        length: r.length,
-        longest: r.longest,
-        member: r.member,
-        serial: r.serial,
-        prefix,
-    }
-}
-
-fn family_of(n: u8) -> Family
-    ensures { result ≡ family_of n }
-{
-    if n == 0 { Family::Ipv4 } else { Family::Ipv6 }
-}
-
-fn action_of(n: u8) -> Action
-    ensures { result ≡ action_of n }
-{
-    if n == 0 { Action::Deny } else { Action::Permit }
-}
-
-fn family_number(f: Family) -> u8
-    ensures { result ≡ family_number f }
-{
-    match f {
-        Family::Ipv4 => 0,
-        Family::Ipv6 => 1,
-    }
-}
-
-fn action_number(a: Action) -> u8
-    ensures { result ≡ action_number a }
-{
-    match a {
-        Action::Deny => 0,
-        Action::Permit => 1,
     }
 }

@@ -1,15 +1,13 @@
 -- What is claimed of the distance, by the wrapped difference. Assumes nothing.
-use Rattle.std.proofs.Common.{◌≡◌, ℕ, zero, suc, ◌+◌, ◌^◌, ◌<◌, Bool, true, false, eqb, ltb, ◌≢◌, ◌↔◌, ℤ, pos, negsuc, ◌-ℤ◌, neg_ℤ, sym, refl, ap, ◌∙◌, subst, arith, ltb-false, ltb-true, eqb-true}
+use Rattle.std.proofs.Common.{◌≡◌, ℕ, zero, suc, ◌+◌, ◌^◌, ◌<◌, Bool, true, false, eqb, ltb, ◌≢◌, ◌↔◌, ℤ, pos, negsuc, ◌-ℤ◌, neg_ℤ, sym, refl, ap, ◌∙◌, subst, arith, ltb-false, ltb-true, eqb-true, Some}
 use mathlib.Core.Logic.Iff
 use mathlib.Core.Logic.{⊎_swap}
-use mathlib.Core.Option.{Option, some, none, some-injective, none-ne-some}
+use Rattle.std.proofs.lemmas.Option.{none-some, same_Some}
 use lib.IntN.{+ℤ_idr}
 use borrow.Author.Tests.{eqb-false}
 use Rattle.serials.specs.Order.{Less, Greater}
 use Rattle.serials.specs.Distance.{IsDistance, wrapped, signed_of, distance_of}
 use Rattle.serials.specs.Claims.{Rfc1982, Measures, Exact}
-use Rattle.serials.specs.declared.Measured.{Measured}
-use Rattle.serials.specs.declared.Measured.TheVariants.{Distance, Opposite}
 use Rattle.serials.proofs.Whole.{across}
 use Rattle.serials.proofs.Sign.{Reads, read, reads_is, reads_off, reads_back, reads_equal, reads_forward, signed_low, signed_high, opposite, measured}
 use Rattle.serials.proofs.Up.{ByUp, by_up}
@@ -87,16 +85,12 @@ exact held offered h o = go (eqb u (2 ^ 31)) refl
     a : ByUp held offered u
     a = by_up held offered h o
 
-    given : Measured → Option ℤ
-    given (Distance d) = some d
-    given Opposite = none
-
     go : (t : Bool) → eqb u (2 ^ 31) ≡ t → Measures distance_of held offered
     go true f =
         let half = eqb-true u (2 ^ 31) f in
         let e = opposite held offered half in
         record {
-          distance = λ d. ((λ g. absurd (none-ne-some d (ap given (sym e ∙ g)))), (λ i. absurd (reads_off u d ((a.distance d).0 i) half)));
+          distance = λ d. ((λ g. absurd (none-some d (sym e ∙ g))), (λ i. absurd (reads_off u d ((a.distance d).0 i) half)));
           opposite = ((λ g. a.apart.1 half), (λ p. e));
         }
     go false f =
@@ -104,8 +98,8 @@ exact held offered h o = go (eqb u (2 ^ 31)) refl
         let e = measured held offered other in
         record {
           distance = λ d. (
-            (λ g. subst (IsDistance held offered) (some-injective (signed_of u) d (ap given (sym e ∙ g))) (found a other)),
-            (λ i. e ∙ ap Distance (reads_is u d ((a.distance d).0 i))),
+            (λ g. subst (IsDistance held offered) (same_Some (signed_of u) d (sym e ∙ g)) (found a other)),
+            (λ i. e ∙ ap Some (reads_is u d ((a.distance d).0 i))),
           );
-          opposite = ((λ g. absurd (none-ne-some (signed_of u) (ap given (sym g ∙ e)))), (λ p. absurd (other (a.apart.0 p))));
+          opposite = ((λ g. absurd (none-some (signed_of u) (sym g ∙ e))), (λ p. absurd (other (a.apart.0 p))));
         }

@@ -1,9 +1,8 @@
 -- A number below 2^32 read as a signed one: itself below 2^31, and else 2^32 less. Assumes nothing.
-use Rattle.std.proofs.Common.{◌≡◌, ℕ, zero, suc, ◌+◌, ◌-◌, ◌^◌, ◌<◌, ◌≤◌, Bool, true, false, cond, ltb, ◌↔◌, ℤ, pos, negsuc, ◌-ℤ◌, nat_abs, ◌<ℤ◌, sym, refl, ap, ◌∙◌, subst, arith, ltb→lt, lt→ltb, ltb-false, ltb-true, le-ltb, lt-ltb, eq-eqb, ne_eqb}
+use Rattle.std.proofs.Common.{◌≡◌, ℕ, suc, ◌+◌, ◌-◌, ◌^◌, ◌<◌, ◌≤◌, Bool, true, false, cond, ltb, ◌↔◌, ℤ, pos, negsuc, ◌-ℤ◌, nat_abs, ◌<ℤ◌, sym, refl, ap, ◌∙◌, subst, arith, ltb→lt, lt→ltb, ltb-false, ltb-true, le-ltb, lt-ltb, eq-eqb, ne_eqb, Some, None, w32, to_z}
 use lib.IntN.{+ℤ_idl}
 use lib.Signed.{lt_z_yes}
 use Rattle.serials.specs.Distance.{wrapped, signed_of, distance_of}
-use Rattle.serials.specs.declared.Measured.TheVariants.{Distance, Opposite}
 use Rattle.serials.proofs.Whole.{pos_one, across}
 
 pub signed_low : (up : ℕ) → up < 2 ^ 31 → signed_of up ≡ pos up
@@ -18,9 +17,12 @@ pub signed_below : (up n : ℕ) → 2 ^ 31 ≤ up → up + suc n ≡ 2 ^ 32 → 
 signed_below up n l e = signed_high up l ∙ across up (2 ^ 32) 0 (suc n) e ∙ +ℤ_idl (negsuc n)
 
 -- -1 - n
-pub below_zero : (n : ℕ) → negsuc 0 -ℤ pos n ≡ negsuc n
-below_zero zero = refl
-below_zero (suc n) = ap negsuc (omega arith)
+-- as the bits of an `i32` are read
+pub signed : (up : ℕ) → up < 2 ^ 32 → to_z w32 up ≡ signed_of up
+unfolding signed_of
+signed up b =
+    let n = 2 ^ 32 - suc up in
+    ap (cond (ltb up (2 ^ 31)) (pos up)) (sym (across up (2 ^ 32) 0 (suc n) (omega arith) ∙ +ℤ_idl (negsuc n)))
 
 -- ---- u, read as a signed number, is d, and that is no less than 1 - 2^31
 
@@ -61,10 +63,10 @@ module _ (u : ℕ) where
 
 -- ---- what the call gives
 
-pub opposite : (held offered : ℕ) → wrapped held offered ≡ 2 ^ 31 → distance_of held offered ≡ Opposite
+pub opposite : (held offered : ℕ) → wrapped held offered ≡ 2 ^ 31 → distance_of held offered ≡ None
 unfolding distance_of
 opposite held offered e = simp (eq-eqb (wrapped held offered) (2 ^ 31) e)
 
-pub measured : (held offered : ℕ) → (wrapped held offered ≡ 2 ^ 31 → ⊥) → distance_of held offered ≡ Distance (signed_of (wrapped held offered))
+pub measured : (held offered : ℕ) → (wrapped held offered ≡ 2 ^ 31 → ⊥) → distance_of held offered ≡ Some (signed_of (wrapped held offered))
 unfolding distance_of
 measured held offered n = simp (ne_eqb (wrapped held offered) (2 ^ 31) n)

@@ -1,5 +1,5 @@
 -- The wrapped difference u, how far it is up from one serial number to another, decides their order; and it is the distance, or 2^32 more. Assumes nothing.
-use Rattle.std.proofs.Common.{◌≡◌, ℕ, ◌+◌, ◌%◌, ◌^◌, ◌<◌, ◌≤◌, Bool, true, false, ltb, ◌↔◌, ℤ, pos, negsuc, refl, inl, inr, ⊎_elim, arith, le→leb, leb→le, ltb-false, ltb-true}
+use Rattle.std.proofs.Common.{◌≡◌, ℕ, ◌+◌, ◌^◌, ◌<◌, ◌≤◌, Bool, true, false, ltb, ◌↔◌, ℤ, pos, negsuc, refl, inl, inr, ⊎_elim, arith, le→leb, leb→le, ltb-false, ltb-true}
 use lib.Signed.{le_z_yes}
 use Rattle.serials.specs.Order.{Serial, Less, Apart}
 use Rattle.serials.specs.Distance.{IsDistance, wrapped}
@@ -21,12 +21,7 @@ module _ (held offered : ℕ) (h : Serial held) (o : Serial offered) where
   abbrev u : ℕ
   u = wrapped held offered
 
-  -- what wraps round to offered is it
-  pub is_wrapped : (r : ℕ) → r < 2 ^ 32 → (r + held) % 2 ^ 32 ≡ offered → r ≡ u
-  unfolding wrapped
-  is_wrapped r l e = omega arith
-
-  below : u < 2 ^ 32
+  pub below : u < 2 ^ 32
   unfolding wrapped
   below = omega arith
 

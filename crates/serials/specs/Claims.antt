@@ -1,10 +1,8 @@
 -- 01, "Going back": what is claimed of the distance.
 -- Assumes nothing.
-use Rattle.std.specs.Prelude.{◌≡◌, ℕ, ◌+◌, ◌^◌, ◌<◌, ◌≢◌, ◌↔◌, ℤ, pos, ◌-ℤ◌, neg_ℤ, ◌<ℤ◌}
+use Rattle.std.specs.Prelude.{◌≡◌, ℕ, ◌+◌, ◌^◌, ◌<◌, ◌≢◌, ◌↔◌, ℤ, pos, ◌-ℤ◌, neg_ℤ, ◌<ℤ◌, Option, Some, None}
 use Rattle.serials.specs.Order.{Serial, Less, Greater, Apart}
 use Rattle.serials.specs.Distance.{IsDistance}
-use Rattle.serials.specs.declared.Measured.{Measured}
-use Rattle.serials.specs.declared.Measured.TheVariants.{Distance, Opposite}
 
 -- of two serial numbers
 pub record Distances (held offered : ℕ) : Type 0 where
@@ -28,9 +26,9 @@ abbrev pub Rfc1982 : Type 0
 Rfc1982 = (held offered : ℕ) → Serial held → Serial offered → Distances held offered
 
 -- a call gives a distance exactly where it is one, and none exactly where the two are 2^31 apart
-pub record Measures (f : ℕ → ℕ → Measured) (held offered : ℕ) : Type 0 where
-  pub distance : (d : ℤ) → (f held offered ≡ Distance d) ↔ IsDistance held offered d
-  pub opposite : (f held offered ≡ Opposite) ↔ Apart held offered
+pub record Measures (f : ℕ → ℕ → Option ℤ) (held offered : ℕ) : Type 0 where
+  pub distance : (d : ℤ) → (f held offered ≡ Some d) ↔ IsDistance held offered d
+  pub opposite : (f held offered ≡ None) ↔ Apart held offered
 
-abbrev pub Exact : (ℕ → ℕ → Measured) → Type 0
+abbrev pub Exact : (ℕ → ℕ → Option ℤ) → Type 0
 Exact f = (held offered : ℕ) → Serial held → Serial offered → Measures f held offered

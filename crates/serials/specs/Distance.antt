@@ -1,8 +1,6 @@
 -- 01, "Going back": the distance from the serial number held to the one offered.
 -- Assumes nothing.
-use Rattle.std.specs.Prelude.{◌≡◌, ℕ, ◌+◌, ◌-◌, ◌%◌, ◌^◌, cond, ℤ, pos, ◌+ℤ◌, ◌-ℤ◌, ◌*ℤ◌, neg_ℤ, ◌≤ℤ◌, ◌==◌, nat_lt}
-use Rattle.serials.specs.declared.Measured.{Measured}
-use Rattle.serials.specs.declared.Measured.TheVariants.{Distance, Opposite}
+use Rattle.std.specs.Prelude.{◌≡◌, ℕ, ◌+◌, ◌-◌, ◌%◌, ◌^◌, cond, ℤ, pos, ◌+ℤ◌, ◌-ℤ◌, ◌*ℤ◌, neg_ℤ, ◌≤ℤ◌, ◌==◌, nat_lt, Option, Some, None}
 
 -- x = y modulo m: they differ by a multiple of m
 abbrev pub Modulo : ℕ → ℤ → ℤ → Type 0
@@ -24,5 +22,5 @@ wrapped held offered = (offered + (2 ^ 32 - held)) % 2 ^ 32
 unfoldable pub signed_of : ℕ → ℤ
 signed_of up = cond (nat_lt up (2 ^ 31)) (pos up) (pos up -ℤ pos (2 ^ 32))
 
-unfoldable pub distance_of : ℕ → ℕ → Measured
-distance_of held offered = cond (wrapped held offered == 2 ^ 31) Opposite (Distance (signed_of (wrapped held offered)))
+unfoldable pub distance_of : ℕ → ℕ → Option ℤ
+distance_of held offered = cond (wrapped held offered == 2 ^ 31) None (Some (signed_of (wrapped held offered)))

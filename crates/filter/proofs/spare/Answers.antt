@@ -1,4 +1,4 @@
--- `filter::spare` meets its contract: the spare bits are the low bits of byte 2 and byte 3. Assumes nothing.
+-- `filter::spare` meets its contract: the spare bits are the low 14 of bytes 2 and 3. Assumes nothing.
 use mathlib.Core.Path.{◌≡◌}
 use mathlib.Core.List.{List}
 use Prim.Native.Nat.{ℕ}
@@ -10,15 +10,9 @@ use mir.Syntax.{w8}
 use Rattle.filter.proofs.Fields.{spare_is}
 use Rattle.filter.proofs.spare.Goals as goal
 
-pub overflow_add-result : goal.overflow_add-result
-overflow_add-result c =
-    let b : List ℕ = c.args.b in
-    let g : (i : ℕ) → Fits w8 (get_or b i 0) = λ i. search rules in
-    omega (arith, g 3)
-
 pub returns : goal.returns
 returns c =
     let b : List ℕ = c.args.b in
     let n : length b ≡ 28 = search rules in
     let g : (i : ℕ) → Fits w8 (get_or b i 0) = λ i. search rules in
-    spare_is b n (λ i. (g i).fits) _ (omega arith)
+    spare_is b n (λ i. (g i).fits) _ (omega (arith, c.from_be_bytes.ensures))
