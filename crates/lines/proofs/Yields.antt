@@ -1,11 +1,12 @@
 -- What the calls of an iterator give, one after the other, of the list that it always yields; and that a split at blanks yields a line's words.
 -- Assumes nothing.
 use mathlib.Core.Path.{◌≡◌, refl, sym, ap, subst, ◌∙◌}
-use mathlib.Core.Bool.{Bool, false}
+use mathlib.Core.Bool.{Bool, true, false}
 use mathlib.Core.List.{List, [], ◌∷◌}
 use Prim.Native.Nat.{ℕ}
 use lib.Dec.{eqb}
-use Rattle.std.specs.Prelude.{Option, Some, None}
+use native.Mathlib.Omega.{arith}
+use Rattle.std.specs.Prelude.{Option, Some, None, is_some}
 use Rattle.std.specs.Slice.Iter.{split_steps, split_rest, split_done, split_callee}
 use Rattle.std.specs.Fn.{CalledAt}
 use Rattle.std.proofs.lemmas.Iterator.{YieldsList}
@@ -41,18 +42,21 @@ module _ {S A B : Type 0} {steps : S → Option A → S → Type 0} {v : A → B
   pub three : {s : S} (t u w x : S) (a b c : A) {ws : List B} → YieldsList steps v s ws → steps s (Some a) t → steps t (Some b) u → steps u (Some c) w → steps w None x → ws ≡ v a ∷ v b ∷ v c ∷ []
   three t u w x a b c {ws = ws} h k l m n = let r = after t a ws h k in r.is ∙ ap (λ y. v a ∷ y) (two u w x b c r.yields l m n)
 
-  pub four : {s : S} (t u w x y : S) (a b c d : A) {ws : List B} → YieldsList steps v s ws → steps s (Some a) t → steps t (Some b) u → steps u (Some c) w → steps w (Some d) x → steps x None y → ws ≡ v a ∷ v b ∷ v c ∷ v d ∷ []
-  four t u w x y a b c d {ws = ws} h k l m n o = let r = after t a ws h k in r.is ∙ ap (λ z. v a ∷ z) (three u w x y b c d r.yields l m n o)
+  -- four items, and whether there are more
+  pub four : {s : S} (t u w x y : S) (a b c d : A) (o : Option A) {ws : List B} → is_some o ≡ false → YieldsList steps v s ws → steps s (Some a) t → steps t (Some b) u → steps u (Some c) w → steps w (Some d) x → steps x o y → ws ≡ v a ∷ v b ∷ v c ∷ v d ∷ []
+  four t u w x y a b c d None {ws = ws} z h k l m n o = let r = after t a ws h k in r.is ∙ ap (λ z. v a ∷ z) (three u w x y b c d r.yields l m n o)
+  four t u w x y a b c d (Some e) z h k l m n o = let p : ◌≡◌ {A = ℕ} 0 1 = cc in absurd (omega arith)
 
-  -- five items, and maybe more
-  pub five : {s : S} (t u w x y : S) (a b c d e : A) {ws : List B} → YieldsList steps v s ws → steps s (Some a) t → steps t (Some b) u → steps u (Some c) w → steps w (Some d) x → steps x (Some e) y → (r : List B) × (ws ≡ v a ∷ v b ∷ v c ∷ v d ∷ v e ∷ r)
-  five t u w x y a b c d e {ws = ws} h k l m n o =
+  pub more : {s : S} (t u w x y : S) (a b c d : A) (o : Option A) {ws : List B} → is_some o ≡ true → YieldsList steps v s ws → steps s (Some a) t → steps t (Some b) u → steps u (Some c) w → steps w (Some d) x → steps x o y
+      → (e : B) × ((r : List B) × (ws ≡ v a ∷ v b ∷ v c ∷ v d ∷ e ∷ r))
+  more t u w x y a b c d None z h k l m n o = let p : ◌≡◌ {A = ℕ} 0 1 = cc in absurd (omega arith)
+  more t u w x y a b c d (Some e) {ws = ws} z h k l m n o =
       let f = after t a ws h k in
       let g = after u b f.rest f.yields l in
       let i = after w c g.rest g.yields m in
       let j = after x d i.rest i.yields n in
       let p = after y e j.rest j.yields o in
-      (p.rest, f.is ∙ ap (λ z. v a ∷ z) (g.is ∙ ap (λ z. v b ∷ z) (i.is ∙ ap (λ z. v c ∷ z) (j.is ∙ ap (λ z. v d ∷ z) p.is))))
+      (v e, (p.rest, f.is ∙ ap (λ z. v a ∷ z) (g.is ∙ ap (λ z. v b ∷ z) (i.is ∙ ap (λ z. v c ∷ z) (j.is ∙ ap (λ z. v d ∷ z) p.is)))))
 
 -- the words of a line, by its split at blanks
 pub words_yielded : {F : Type 0} {g : Mut F (Bor ℕ × Unit {0}) Bool} {s : _} (t : _) (o : Option (Bor (List ℕ))) (line : List ℕ) → split_steps g s o t → split_rest s ≡ line → split_done s ≡ false

@@ -41,9 +41,9 @@ pub fn parse(line: &[u8]) -> Option<Command>
     let Some(stamp) = words.next() else {
         return with_value(name, text::decimal(address), text::hex(value));
     };
-    let None = words.next() else {
+    if words.next().is_some() {
         return None;
-    };
+    }
     with_stamp(
         name,
         text::decimal(address),
