@@ -75,6 +75,9 @@ shows p b o m w e f = ap (λ x. let q : code.Page = record { bytes = x; at = m }
 pub written_written : (p : code.Page) (k l : List ℕ) → written (written p k) l ≡ written p (k ++ l)
 written_written p k l = ap (showing p) (write_write (shown p) k l)
 
+pub written_two : (p q r : code.Page) (k l : List ℕ) → q ≡ written p k → r ≡ written q l → r ≡ written p (k ++ l)
+written_two p q r k l e f = f ∙ ap (λ x. written x l) e ∙ written_written p k l
+
 pub write_none : (o : List ℕ) (a : ℕ) → a ≤ length o → write (page o a) [] ≡ page o a
 unfolding write
 write_none o a h = ap₂ page (ap (λ l. take a o ++ l) (copied_none (drop a o)) ∙ take-append-drop a o) (omega arith)
