@@ -169,6 +169,8 @@ def refused(said):
         if error:
             file, name, what = error[1], error[2] or "", error[3]
             folder, _, last = file.rpartition("/")
+            # the folder of a function that calls itself has a + before its name
+            folder = folder.replace("/+", "/")
             place = folder if folder in functions and last in FILES else file
             if not name and re.match(r"\d+ declarations? that depends? on ", what):
                 rests.add(place)

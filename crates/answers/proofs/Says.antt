@@ -1,33 +1,33 @@
 -- The pieces of an answer's line, put together, and how long a line is. Assumes nothing.
 use mathlib.Core.Path.{◌≡◌, sym, ap, ◌∙◌}
-use mathlib.Core.List.{[], ◌∷◌, ◌++◌, append_assoc}
+use mathlib.Core.List.{List, [], ◌∷◌, ◌++◌, append_assoc}
 use native.Mathlib.Omega.{arith}
 use Prim.Native.Nat.{ℕ, ◌≤◌, ◌<◌}
 use lib.ListN.{length, length-append}
 use Rattle.text.specs.Text.{ascii, decimal, hex}
 use Rattle.text.proofs.Numerals.{decimal_small, decimal_length}
-use Rattle.page.specs.Page.{Page, write}
+use Rattle.page.specs.declared.Page.{Page}
+use Rattle.page.specs.Written.{written}
+use Rattle.page.proofs.Pages.{written_two}
 use Rattle.lines.specs.Grammar.{blank, newline, spaced}
-use Rattle.answers.specs.Answers.{name_of, said}
+use Rattle.answers.specs.Answers.{name_of, words_said, said}
 use Rattle.answers.specs.declared.Name.{Name}
 use Rattle.answers.specs.declared.Name.TheVariants.{Add, Store, Load, Remove, Check, Spoil}
 use Rattle.answers.specs.declared.Answer.{Answer}
 use Rattle.answers.specs.declared.Answer.TheVariants.{Numbered, Loaded, Accepted, Stamp, Tag, Bad}
 
--- equal names, and equal answers, write the same
-pub same_name : (g : Page) (a b : Name) (x : Page) → x ≡ write g (name_of a ++ (blank ∷ [])) → b ≡ a → x ≡ write g (name_of b ++ (blank ∷ []))
-same_name g a b x e q = e ∙ ap (λ k. write g (name_of k ++ (blank ∷ []))) (sym q)
+-- the line of an answer is its words and a newline
+pub ended : (p q r : Page) (t : List ℕ) (a b : Answer) → q ≡ written p t → r ≡ written q (newline ∷ []) → t ≡ spaced (words_said a) → b ≡ a → r ≡ written p (said b)
+unfolding said
+ended p q r t a b e f g h = written_two p q r t (newline ∷ []) e f ∙ ap (λ x. written p (x ++ (newline ∷ []))) g ∙ ap (λ x. written p (said x)) (sym h)
 
-pub same_answer : (g : Page) (a b : Answer) (x : Page) → x ≡ write g (said a) → b ≡ a → x ≡ write g (said b)
-same_answer g a b x e q = e ∙ ap (λ k. write g (said k)) (sym q)
+pub numbered : (c : Name) (n : ℕ) → (name_of c ++ (blank ∷ [])) ++ decimal n ≡ spaced (words_said (Numbered c n))
+unfolding spaced
+numbered c n = append_assoc (name_of c) (blank ∷ []) (decimal n)
 
-pub said_number : (c : Name) (n : ℕ) → (name_of c ++ (blank ∷ [])) ++ (decimal n ++ (newline ∷ [])) ≡ said (Numbered c n)
-unfolding said spaced
-said_number c n = append_assoc (name_of c) (blank ∷ []) (decimal n ++ (newline ∷ [])) ∙ sym (append_assoc (name_of c) (blank ∷ decimal n) (newline ∷ []))
-
-pub said_byte : (b : ℕ) → ascii "load 0 " ++ (hex b ++ (newline ∷ [])) ≡ said (Loaded b)
-unfolding said spaced
-said_byte b = rw (decimal_small 0 (omega arith))
+pub loaded : (b : ℕ) → ascii "load 0 " ++ hex b ≡ spaced (words_said (Loaded b))
+unfolding spaced
+loaded b = rw (decimal_small 0 (omega arith))
 
 -- an answer whose number is one digit, and whose address fits two bytes
 abbrev pub Short : Answer → Type 0

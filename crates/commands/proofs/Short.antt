@@ -7,6 +7,7 @@ use Prim.Native.Nat.{ℕ, zero, suc, ◌<◌}
 use native.Mathlib.Omega.{arith}
 use borrow.Author.Tests.{ltb-true}
 use lib.Dec.{T, ltb}
+use Rattle.std.specs.Prelude.{Option, Some, None}
 use Rattle.refusal.specs.Refusal.{Row, first}
 use Rattle.state.specs.Sizes.{width, addresses}
 use Rattle.state.specs.Cells.{entry_at}
@@ -20,9 +21,9 @@ use Rattle.state.proofs.Guards.{take_first, opens}
 use Rattle.state.proofs.Ready.{by_rows, exchange_ready, remove_ready}
 use Rattle.entries.specs.Tag.{tag}
 use Rattle.lines.specs.declared.Command.{Command}
-use Rattle.lines.specs.declared.Command.TheVariants.{Add, Store, Load, Remove, Check, Spoil, Bad}
+use Rattle.lines.specs.declared.Command.TheVariants.{Add, Store, Load, Remove, Check, Spoil}
 use Rattle.answers.proofs.Says.{Short}
-use Rattle.commands.specs.Commands.{filled_with, spoil_of, load_answer, check_answer, ran_command}
+use Rattle.commands.specs.Commands.{filled_with, spoil_of, load_answer, check_answer, ran_command, ran_line}
 
 small : List Row → Bool
 small [] = true
@@ -82,7 +83,7 @@ load_short : (n b : ℕ) → n < 10 → Short (load_answer n b)
 load_short zero b h = tt
 load_short (suc n) b h = h
 
-pub answer_short : (s : State) (m : List ℕ) (c : Command) → Kept s → Short (ran_command s m c).answer × Kept (ran_command s m c).state
+answer_short : (s : State) (m : List ℕ) (c : Command) → Kept s → Short (ran_command s m c).answer × Kept (ran_command s m c).state
 unfolding ran_command small add_of added add_rows exchange_rows store_of stored load_of loaded remove_rows remove_of removed spoil_of with_marks put_entry
 answer_short s m (Add a v) k =
     let v = filled_with v in
@@ -101,4 +102,7 @@ answer_short s m (Remove a) k =
     (g.number, g.kept)
 answer_short s m Check k = let g = given_check s m k in (g.short, g.kept)
 answer_short s m (Spoil a v t) k = (first_small (address_row a ∷ []) tt, k)
-answer_short s m Bad k = (tt, k)
+
+pub line_short : (s : State) (m : List ℕ) (o : Option Command) → Kept s → Short (ran_line s m o).answer × Kept (ran_line s m o).state
+line_short s m (Some c) k = answer_short s m c k
+line_short s m None k = (tt, k)

@@ -1,6 +1,6 @@
 -- 01, "The bench program": what each command does to the state and the store, and its answer.
 -- Assumes nothing.
-use Rattle.std.specs.Prelude.{List, [], ◌∷◌, ℕ, get_or, replicate}
+use Rattle.std.specs.Prelude.{List, [], ◌∷◌, ℕ, get_or, replicate, Option, Some, None}
 use Rattle.refusal.specs.Refusal.{done, Filled, fills}
 use Rattle.state.specs.Sizes.{width, value_size}
 use Rattle.state.specs.Cells.{write_cell}
@@ -12,7 +12,7 @@ use Rattle.state.specs.declared.Verdict.{Verdict}
 use Rattle.state.specs.declared.Verdict.TheVariants.{Accept, Stamp, Tag, Nothing}
 use Rattle.entries.specs.Tag.{tag}
 use Rattle.lines.specs.declared.Command.{Command}
-use Rattle.lines.specs.declared.Command.TheVariants.{Add, Store, Load, Remove, Check, Spoil, Bad}
+use Rattle.lines.specs.declared.Command.TheVariants.{Add, Store, Load, Remove, Check, Spoil}
 use Rattle.answers.specs.declared.Name.{Name}
 use Rattle.answers.specs.declared.Name.TheVariants as name
 use Rattle.answers.specs.declared.Answer.{Answer}
@@ -67,4 +67,8 @@ ran_command s m (Load a) = ran_load (load_of width tag s m a (filled_with 0)).se
 ran_command s m (Remove a) = numbered name.Remove (remove_of width tag s m a).seen
 ran_command s m Check = ran_check (check_of width tag s m).seen
 ran_command s m (Spoil a v t) = ran_spoil s (spoil_of m a v t)
-ran_command s m Bad = ran s m answer.Bad
+
+-- what a line leaves, by the command that it is
+abbrev pub ran_line : State → List ℕ → Option Command → Ran
+ran_line s m (Some c) = ran_command s m c
+ran_line s m None = ran s m answer.Bad

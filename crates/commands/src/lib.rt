@@ -5,7 +5,7 @@ ghost use Rattle.std.specs.Prelude.{◌≡◌, length};
 ghost use Rattle.refusal.specs.Refusal.{filled};
 ghost use Rattle.state.specs.Sizes.{width, store_size};
 ghost use Rattle.lines.specs.declared.Command.TheVariants.{Add, Store, Load, Remove, Check, Spoil};
-ghost use Rattle.commands.specs.Commands.{spoil_of, load_answer, check_answer, ran, ran_command};
+ghost use Rattle.commands.specs.Commands.{spoil_of, load_answer, check_answer, ran, ran_command, ran_line};
 
 use answers::{Answer, Name};
 use lines::Command;
@@ -18,10 +18,16 @@ pub struct Ran {
     pub answer: Answer,
 }
 
-// Runs a command.
-pub fn run(s: State, store: &mut [u8; State::STORE], c: Command) -> Ran
-    ensures { ran result.state store.new result.answer ≡ ran_command s store.old c }
+// Runs the command that a line is; a line that is none leaves all as it was.
+pub fn run(s: State, store: &mut [u8; State::STORE], line: Option<Command>) -> Ran
+    ensures { ran result.state store.new result.answer ≡ ran_line s store.old line }
 {
+    let Some(c) = line else {
+        return Ran {
+            state: s,
+            answer: Answer::Bad,
+        };
+    };
     match c {
         Command::Add(a, v) => return run_add(s, store, a, v),
         Command::Store(a, v) => return run_store(s, store, a, v),
@@ -29,12 +35,6 @@ pub fn run(s: State, store: &mut [u8; State::STORE], c: Command) -> Ran
         Command::Remove(a) => return run_remove(s, store, a),
         Command::Check => return run_check(s, store),
         Command::Spoil(a, v, t) => return run_spoil(s, store, a, v, t),
-        Command::Bad => {
-            return Ran {
-                state: s,
-                answer: Answer::Bad,
-            };
-        },
     }
 }
 

@@ -1,32 +1,42 @@
 -- A list that is cut at a byte: what stands before the first such byte is the first part, and the rest is cut in the same way. Assumes nothing.
-use borrow.Author.Tests.{eqb-true, eqb-false, eq-eqb, ne_eqb}
+use borrow.Author.Tests.{ltb-true, ltb-false, eqb-true, eqb-false, eq-eqb, ne_eqb}
 use mathlib.Core.Path.{◌≡◌, refl, sym, ap, ap₂, ◌∙◌}
-use mathlib.Core.Bool.{Bool, true, false, cond}
+use mathlib.Core.Bool.{Bool, true, false, cond, ◌&&◌}
 use mathlib.Core.List.{List, [], ◌∷◌, ◌++◌}
 use native.Mathlib.Omega.{arith}
 use native.Mathlib.Numerals.{add-one}
-use Prim.Native.Nat.{ℕ, suc, ◌+◌, ◌-◌, ◌≤◌, ◌<◌}
-use lib.Dec.{eqb}
-use lib.ListN.{length, get_or, take, drop, length-drop, drop_of_length-le}
-use lib.Seq.{drop-cons, take_all}
-use Rattle.text.specs.Read.{decimal_in, hex_in}
+use Prim.Native.Nat.{ℕ, suc, ◌+◌, ◌≤◌, ◌<◌}
+use lib.Dec.{eqb, ltb}
+use lib.ListN.{length, take, drop, drop_of_length-le}
+use lib.Seq.{take_all}
+use Rattle.std.specs.Prelude.{Option, position, unwrap_or}
+use Rattle.std.specs.List.{onto_first, slice_split, position_or_len}
+use Rattle.std.proofs.lemmas.List.Recursion.{is_position_or_len}
+use lib.Pointwise.{pointwise}
+use Rattle.octets.specs.Places.{same}
 use Rattle.text.proofs.Each.{Each, Lacks}
 use Rattle.lines.specs.Grammar.{newline, blank, onto, parts, lines_in}
-use Rattle.lines.specs.Parse.{before, with_address, with_value, with_stamp, command_of, words_in}
-use Rattle.lines.specs.declared.Command.TheVariants.{Bad}
+use Rattle.lines.specs.Parse.{before, words_in}
 
--- the bytes before the first `end`, from i on
-pub before_stop : (end : ℕ) (s : List ℕ) (i : ℕ) → i < length s → get_or s i 0 ≡ end → length (before end (drop i s)) ≡ 0
-unfolding before
-before_stop end s i h e = rw (drop-cons s i 0, eq-eqb (get_or s i 0) end e)
+-- a word is compared with a name by std's `==`
+pointwise_same : (k l : List ℕ) → pointwise eqb k l ≡ same k l
+unfolding same
+pointwise_same [] [] = refl
+pointwise_same [] (y ∷ l) = refl
+pointwise_same (x ∷ k) [] = refl
+pointwise_same (x ∷ k) (y ∷ l) = ap (λ b. eqb x y && b) (pointwise_same k l)
 
-pub before_go : (end : ℕ) (s : List ℕ) (i : ℕ) → i < length s → (get_or s i 0 ≡ end → ⊥) → length (before end (drop i s)) ≡ length (before end (drop (i + 1) s)) + 1
-unfolding before
-before_go end s i h n = rw (drop-cons s i 0, ne_eqb (get_or s i 0) end n, add-one i, add-one)
+pub same_as : {b t : Bool} (k : List ℕ) {l m : List ℕ} → m ≡ l → t ≡ pointwise eqb k m → t ≡ b → same k l ≡ b
+same_as k {l} e q r = sym (pointwise_same k l) ∙ ap (pointwise eqb k) (sym e) ∙ sym q ∙ r
 
-pub before_end : (end : ℕ) (s : List ℕ) (i : ℕ) → length s ≤ i → length (before end (drop i s)) ≡ 0
+-- the bytes before the first `end` are as many as std's `position` counts
+before_cons : (end x : ℕ) (xs : List ℕ) → length (before end (x ∷ xs)) ≡ cond (eqb x end) 0 (1 + length (before end xs))
 unfolding before
-before_end end s i h = rw (drop_of_length-le s {i = i} h)
+before_cons end x xs = elim (eqb x end) as (λ b. length (cond b [] (x ∷ before end xs)) ≡ cond b 0 (1 + length (before end xs))) [ true ↦ refl | false ↦ omega arith ]
+
+before_position : (end : ℕ) (s : List ℕ) → length (before end s) ≡ position_or_len (λ b. eqb b end) s
+unfolding before
+before_position end s = is_position_or_len (λ l. length (before end l)) (λ b. eqb b end) refl (before_cons end) s
 
 module _ (end : ℕ) where
   pub before_short : (s : List ℕ) → length (before end s) ≤ length s
@@ -37,6 +47,17 @@ module _ (end : ℕ) where
       go : (b : Bool) → eqb x end ≡ b → length (before end xs) ≤ length xs → length (before end (x ∷ xs)) ≤ length (x ∷ xs)
       go true e h = rw e (omega arith)
       go false e h = rw e (omega arith)
+
+  pub before_found : (s : List ℕ) (o : Option ℕ) (n : ℕ) → o ≡ position (λ b. eqb b end) s → n ≡ unwrap_or o (length s) → (n ≡ length (before end s)) × (n ≤ length s)
+  before_found s o n e q = go (ltb (position_or_len (λ b. eqb b end) s) (length s)) refl
+    where
+      go : (b : Bool) → ltb (position_or_len (λ b. eqb b end) s) (length s) ≡ b → (n ≡ length (before end s)) × (n ≤ length s)
+      go true t =
+          let u : n ≡ position_or_len (λ b. eqb b end) s = q ∙ ap (λ x. unwrap_or x (length s)) (rw t at e) in
+          (u ∙ sym (before_position end s), omega (arith, u, ltb-true _ (length s) t))
+      go false t =
+          let u : n ≡ length s = q ∙ ap (λ x. unwrap_or x (length s)) (rw t at e) in
+          (omega (arith, u, before_position end s, before_short s, ltb-false _ (length s) t), omega (arith, u))
 
   before_lacks : (s : List ℕ) → length (before end s) ≡ length s → Lacks end s
   unfolding before Each
@@ -77,51 +98,34 @@ unfolding words_in parts
 words_single [] h = refl
 words_single (x ∷ xs) h = parts_whole blank ([] ∷ []) (λ y. refl) x xs h
 
-pub words_one : (s : List ℕ) → length s ≡ length (before blank s) → words_in s ≡ s ∷ []
-words_one s h = words_single s (before_lacks blank s (sym h))
-
-pub words_more : (s : List ℕ) (n : ℕ) → n ≡ length (before blank s) → (n ≡ length s → ⊥) → words_in s ≡ take n s ∷ words_in (take (length s - (n + 1)) (drop (n + 1) s))
-unfolding words_in
-words_more s n e h =
-    rw (take_all (length s - (n + 1)) (drop (n + 1) s) (omega (arith, length-drop (n + 1) s)))
-    (rw (e, add-one) (parts_more blank ([] ∷ []) s (omega (arith, before_short blank s))))
-
--- the command of the last word and those before it
-pub last_second : (s n : List ℕ) → length s ≡ length (before blank s) → command_of (n ∷ words_in s) ≡ with_address n (decimal_in s)
-unfolding command_of
-last_second s n h = rw (words_one s h)
-
-pub last_third : (s n a : List ℕ) → length s ≡ length (before blank s) → command_of (n ∷ a ∷ words_in s) ≡ with_value n (decimal_in a) (hex_in s)
-unfolding command_of
-last_third s n a h = rw (words_one s h)
-
-pub last_fourth : (s n a v : List ℕ) → length s ≡ length (before blank s) → command_of (n ∷ a ∷ v ∷ words_in s) ≡ with_stamp n (decimal_in a) (hex_in v) (decimal_in s)
-unfolding command_of
-last_fourth s n a v h = rw (words_one s h)
-
 -- a line has a first word
-pub record Some (ws : List (List ℕ)) : Type 0 where
+pub record First (ws : List (List ℕ)) : Type 0 where
   pub first : List ℕ
   pub rest : List (List ℕ)
   pub is : ws ≡ first ∷ rest
 
-onto_some : (x : ℕ) (ps : List (List ℕ)) → Some (onto x ps)
+onto_some : (x : ℕ) (ps : List (List ℕ)) → First (onto x ps)
 onto_some x [] = record { first = x ∷ []; rest = []; is = refl }
 onto_some x (p ∷ ps) = record { first = x ∷ p; rest = ps; is = refl }
 
-pub words_some : (s : List ℕ) → Some (words_in s)
+pub words_some : (s : List ℕ) → First (words_in s)
 unfolding words_in parts
 words_some [] = record { first = []; rest = []; is = refl }
 words_some (x ∷ xs) = go (eqb x blank)
   where
-    go : (b : Bool) → Some (cond b ([] ∷ parts blank ([] ∷ []) xs) (onto x (parts blank ([] ∷ []) xs)))
+    go : (b : Bool) → First (cond b ([] ∷ parts blank ([] ∷ []) xs) (onto x (parts blank ([] ∷ []) xs)))
     go true = record { first = []; rest = parts blank ([] ∷ []) xs; is = refl }
     go false = onto_some x (parts blank ([] ∷ []) xs)
 
--- so five words and more are no command
-pub words_many : (s n a v t : List ℕ) → command_of (n ∷ a ∷ v ∷ t ∷ words_in s) ≡ Bad
-unfolding command_of
-words_many s n a v t = rw (words_some s).is
+-- std's split gives the words
+onto_onto : (x : ℕ) (ps : List (List ℕ)) → onto x ps ≡ onto_first x ps
+onto_onto x [] = refl
+onto_onto x (p ∷ ps) = refl
+
+pub words_split : (s : List ℕ) → words_in s ≡ slice_split (λ b. eqb b blank) s
+unfolding words_in parts
+words_split [] = refl
+words_split (x ∷ xs) = ap₂ (λ l r. cond (eqb x blank) ([] ∷ l) r) (words_split xs) (onto_onto x (words_in xs) ∙ ap (onto_first x) (words_split xs))
 
 -- the lines of an input
 pub lines_none : lines_in [] ≡ []

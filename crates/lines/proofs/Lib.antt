@@ -1,3 +1,3 @@
-pub mod Same
 pub mod Cuts
+pub mod Yields
 pub mod Exact

@@ -1,9 +1,9 @@
 -- 01, "The bench program": the lines of an input, and which bytes are which command.
 -- Assumes nothing.
-use Rattle.std.specs.Prelude.{◌≡◌, cond, List, [], ◌∷◌, ◌++◌, ℕ, ◌<◌, eqb}
+use Rattle.std.specs.Prelude.{◌≡◌, cond, List, [], ◌∷◌, ◌++◌, ℕ, ◌<◌, eqb, Option, Some, None}
 use Rattle.text.specs.Text.{ascii, decimal, hex}
 use Rattle.lines.specs.declared.Command.{Command}
-use Rattle.lines.specs.declared.Command.TheVariants.{Add, Store, Load, Remove, Check, Spoil, Bad}
+use Rattle.lines.specs.declared.Command.TheVariants.{Add, Store, Load, Remove, Check, Spoil}
 
 abbrev pub newline : ℕ
 newline = 10
@@ -33,7 +33,6 @@ words_of (Load a) = ascii "load" ∷ decimal a ∷ []
 words_of (Remove a) = ascii "remove" ∷ decimal a ∷ []
 words_of Check = ascii "check" ∷ []
 words_of (Spoil a v t) = ascii "spoil" ∷ decimal a ∷ hex v ∷ decimal t ∷ []
-words_of Bad = []
 
 -- one blank between words
 unfoldable pub spaced : List (List ℕ) → List ℕ
@@ -53,9 +52,8 @@ Lawful (Load a) = a < 65536
 Lawful (Remove a) = a < 65536
 Lawful Check = Unit {0}
 Lawful (Spoil a v t) = (a < 65536) × (v < 256) × (t < 65536)
-Lawful Bad = ⊥
 
--- a line is a command exactly when it is the command's line; every other line is bad
-pub data Reads : List ℕ → Command → Type 0 where
-  command : (c : Command) → Lawful c → Reads (line_of c) c
-  other : (l : List ℕ) → ((c : Command) → Lawful c → line_of c ≡ l → ⊥) → Reads l Bad
+-- a line is a command exactly when it is the command's line; every other line is none
+pub data Reads : List ℕ → Option Command → Type 0 where
+  command : (c : Command) → Lawful c → Reads (line_of c) (Some c)
+  other : (l : List ℕ) → ((c : Command) → Lawful c → line_of c ≡ l → ⊥) → Reads l None

@@ -9,6 +9,9 @@ use lib.Dec.{leb}
 use lib.ListN.{length, take, drop, length-append, length-take, length-drop, take-append-drop, drop_of_length-le}
 use lib.Seq.{length-take-le, take_all, take-nil, drop-nil, take-append-add, drop-append-add}
 use Rattle.lent.specs.Lent.{copied}
+use denote.MutBor.{MutBor}
+use Rattle.page.specs.declared.Page as code
+use Rattle.page.specs.Written.{shown, showing, written}
 use Rattle.page.specs.Page.{Page, page, write, whole}
 
 copied_none : (o : List ℕ) → copied o [] ≡ o
@@ -65,9 +68,15 @@ write_write g p q = go (leb g.at (length g.bytes)) refl
         let h : length g.bytes ≤ g.at = omega (arith, leb-false g.at (length g.bytes) e) in
         ap (λ x. write x q) (write_full g.bytes p g.at h) ∙ write_full g.bytes q (length g.bytes) (omega arith) ∙ sym (write_full g.bytes (p ++ q) g.at h)
 
-pub write_three : (g g₁ g₂ g₃ : Page) (p q r : List ℕ) → g₁ ≡ write g p → g₂ ≡ write g₁ q → g₃ ≡ write g₂ r → g₃ ≡ write g (p ++ (q ++ r))
-write_three g g₁ g₂ g₃ p q r d e f =
-    f ∙ ap (λ x. write x r) (e ∙ ap (λ x. write x q) d) ∙ write_write (write g p) q r ∙ write_write g p (q ++ r)
+-- a page of the code that shows what is written
+pub shows : (p : code.Page) (b : MutBor (List ℕ)) (o : List ℕ) (m : ℕ) (w : Page) → b ≡ record p.bytes { now = o } → page o m ≡ w → ◌≡◌ {A = code.Page} (record { bytes = b; at = m }) (showing p w)
+shows p b o m w e f = ap (λ x. let q : code.Page = record { bytes = x; at = m } in q) e ∙ ap (showing p) f
+
+pub written_written : (p : code.Page) (k l : List ℕ) → written (written p k) l ≡ written p (k ++ l)
+written_written p k l = ap (showing p) (write_write (shown p) k l)
+
+pub written_two : (p q r : code.Page) (k l : List ℕ) → q ≡ written p k → r ≡ written q l → r ≡ written p (k ++ l)
+written_two p q r k l e f = f ∙ ap (λ x. written x l) e ∙ written_written p k l
 
 pub write_none : (o : List ℕ) (a : ℕ) → a ≤ length o → write (page o a) [] ≡ page o a
 unfolding write

@@ -1,48 +1,45 @@
-// A page: a lent buffer that is written piece by piece. Each call writes from a place on, as much as fits, and gives the place after it.
+// A page: a lent buffer that is written piece by piece, each piece after the one before, as much as fits.
 #![tactic(auto)]
 
 ghost use Rattle.std.specs.Prelude.{◌≡◌, ◌<◌};
 ghost use Rattle.text.specs.Text.{decimal, glyph, hex};
-ghost use Rattle.page.specs.Page.{page, write};
+ghost use Rattle.page.specs.Written.{written};
 
-// Writes bytes.
-pub fn put(out: &mut [u8], at: usize, bytes: &[u8]) -> usize
-    ensures { page out.new result ≡ write (page out.old at) bytes.now }
-{
-    let end = out.len();
-    if at > end {
-        return end;
-    }
-    lent::copy(&mut out[at..], bytes);
-    if bytes.len() < end - at {
-        return at + bytes.len();
-    }
-    end
+// A lent buffer, and the place up to which it is written.
+#[derive(Drop)]
+pub struct Page<'a> {
+    pub bytes: &'a mut [u8],
+    pub at: usize,
 }
 
-// Writes a number in decimal. The last digit is found first.
-pub fn put_decimal(out: &mut [u8], at: usize, n: u16) -> usize
-    ensures { page out.new result ≡ write (page out.old at) (decimal n) }
-{
-    let mut digits = [b'0'; 5];
-    let mut from: usize = 4;
-    let mut left = n;
-    while left > 9 {
-        digits[from] = b'0' + (left % 10) as u8;
-        left = left / 10;
-        from -= 1;
+impl Page<'_> {
+    // Writes bytes.
+    pub fn put(&mut self, text: &[u8])
+        ensures { self.new ≡ written self.old text.now }
+    {
+        let end = self.bytes.len();
+        if self.at < end {
+            lent::copy(&mut self.bytes[self.at..], text);
+        }
+        self.at = self.at.saturating_add(text.len()).min(end);
     }
-    digits[from] = b'0' + left as u8;
-    put(out, at, &digits[from..])
-}
 
-// Writes a byte in two hex digits.
-pub fn put_hex(out: &mut [u8], at: usize, b: u8) -> usize
-    ensures { page out.new result ≡ write (page out.old at) (hex b) }
-{
-    let high = digit(b / 16);
-    let low = digit(b % 16);
-    put(out, at, &[high, low])
+    // Writes a number in decimal: the digits before its last one, and then that.
+    pub fn put_decimal(&mut self, n: u16)
+        ensures { self.new ≡ written self.old (decimal n) }
+    {
+        if n > 9 {
+            self.put_decimal(n / 10);
+        }
+        self.put(&[b'0' + (n % 10) as u8]);
+    }
+
+    // Writes a byte in two hex digits.
+    pub fn put_hex(&mut self, b: u8)
+        ensures { self.new ≡ written self.old (hex b) }
+    {
+        self.put(&[digit(b / 16), digit(b % 16)]);
+    }
 }
 
 // The hex digit of a number below 16.

@@ -11,8 +11,8 @@ use Rattle.lines.specs.Grammar.{newline, onto, parts, lines_in}
 use Rattle.lines.specs.Parse.{parsed}
 use Rattle.answers.specs.Answers.{said}
 use Rattle.answers.proofs.Says.{said_fits}
-use Rattle.commands.specs.Commands.{ran_command}
-use Rattle.commands.proofs.Short.{Kept, answer_short}
+use Rattle.commands.specs.Commands.{ran_line}
+use Rattle.commands.proofs.Short.{Kept, line_short}
 use Rattle.state.specs.Sizes.{width, key_size, store_size}
 use Rattle.state.specs.Start.{fresh, start_of}
 use Rattle.state.specs.declared.State.{State}
@@ -24,8 +24,8 @@ output_fits : (s : State) (m : List ℕ) (ls : List (List ℕ)) → Kept s → l
 unfolding output_of
 output_fits s m [] k = omega arith
 output_fits s m (l ∷ ls) k =
-    let r = ran_command s m (parsed l) in
-    let a = answer_short s m (parsed l) k in
+    let r = ran_line s m (parsed l) in
+    let a = line_short s m (parsed l) k in
     omega (arith, length-append (said r.answer) (output_of r.state r.store ls), said_fits r.answer a.0, output_fits r.state r.store ls a.1)
 
 -- no more lines than bytes

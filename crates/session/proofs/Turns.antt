@@ -6,36 +6,30 @@ use native.Mathlib.Omega.{arith}
 use Prim.Native.Nat.{ℕ, ◌+◌, ◌-◌, ◌≤◌, ◌<◌}
 use lib.ListN.{length, take, drop, replicate, length-drop}
 use lib.Seq.{take_all, drop-drop}
+use Rattle.std.specs.Prelude.{Option}
 use Rattle.text.specs.Text.{ascii}
-use Rattle.page.specs.Page.{Page, write}
-use Rattle.page.proofs.Pages.{write_write}
+use Rattle.page.specs.declared.Page.{Page}
+use Rattle.page.specs.Written.{written}
+use Rattle.page.proofs.Pages.{written_written}
 use Rattle.lines.specs.Grammar.{newline, lines_in}
 use Rattle.lines.specs.Parse.{before, parsed}
 use Rattle.lines.specs.declared.Command.{Command}
 use Rattle.lines.proofs.Cuts.{lines_more}
 use Rattle.answers.specs.Answers.{said}
-use Rattle.commands.specs.Commands.{Ran, ran_command}
+use Rattle.commands.specs.Commands.{Ran, ran_line}
 use Rattle.state.specs.Sizes.{width, key_size, store_size}
 use Rattle.state.specs.Start.{start_of}
 use Rattle.state.specs.declared.State.{State}
 use Rattle.session.specs.Session.{output_of, session_of}
 
 -- a line and the others
-pub turn : (g h : Page) (s : State) (m : List ℕ) (c : Command) (line : List ℕ) (ls : List (List ℕ)) (r : Ran)
-    → c ≡ parsed line → r ≡ ran_command s m c → h ≡ write g (said r.answer) → write h (output_of r.state r.store ls) ≡ write g (output_of s m (line ∷ ls))
+pub turn : (g h : Page) (s : State) (m : List ℕ) (c : Option Command) (line : List ℕ) (ls : List (List ℕ)) (r : Ran)
+    → c ≡ parsed line → r ≡ ran_line s m c → h ≡ written g (said r.answer) → written h (output_of r.state r.store ls) ≡ written g (output_of s m (line ∷ ls))
 unfolding output_of
 turn g h s m c line ls r e q w =
-    ap (λ x. write x (output_of r.state r.store ls)) w
-    ∙ write_write g (said r.answer) (output_of r.state r.store ls)
-    ∙ ap (λ (x : Ran). write g (said x.answer ++ output_of x.state x.store ls)) (q ∙ ap (ran_command s m) e)
-
--- the line from n on, and the lines past it
-pub next_line : (input : List ℕ) (n e : ℕ) → n < length input → e ≡ length (before newline (take (length input - n) (drop n input)))
-    → lines_in (drop n input) ≡ take e (take (length input - n) (drop n input)) ∷ lines_in (drop (n + e + 1) input)
-next_line input n e h q =
-    let whole : take (length input - n) (drop n input) ≡ drop n input = take_all (length input - n) (drop n input) (omega (arith, length-drop n input)) in
-    let past : n + e + 1 ≡ n + (e + 1) = omega arith in
-    rw (whole, past, ← drop-drop (e + 1) n input) (lines_more (drop n input) e (rw whole at q) (omega (arith, length-drop n input)))
+    ap (λ x. written x (output_of r.state r.store ls)) w
+    ∙ written_written g (said r.answer) (output_of r.state r.store ls)
+    ∙ ap (λ (x : Ran). written g (said x.answer ++ output_of x.state x.store ls)) (q ∙ ap (ran_line s m) e)
 
 -- a whole session, by its size
 pub session_long : (input : List ℕ) → 4096 < length input → session_of input ≡ ascii "too long\n"

@@ -5,7 +5,7 @@ use Rattle.text.specs.Text.{ascii}
 use Rattle.lines.specs.Grammar.{lines_in}
 use Rattle.lines.specs.Parse.{parsed}
 use Rattle.answers.specs.Answers.{said}
-use Rattle.commands.specs.Commands.{ran_command}
+use Rattle.commands.specs.Commands.{ran_line}
 use Rattle.state.specs.Sizes.{width, key_size, store_size}
 use Rattle.state.specs.Start.{start_of}
 use Rattle.state.specs.declared.State.{State}
@@ -13,7 +13,7 @@ use Rattle.state.specs.declared.State.{State}
 -- what lines print, one after the other
 unfoldable pub output_of : State → List ℕ → List (List ℕ) → List ℕ
 output_of s m [] = []
-output_of s m (l ∷ ls) = let r = ran_command s m (parsed l) in said r.answer ++ output_of r.state r.store ls
+output_of s m (l ∷ ls) = let r = ran_line s m (parsed l) in said r.answer ++ output_of r.state r.store ls
 
 -- up to 4,096 bytes are read; the key and the store are zero bytes
 abbrev pub limit : ℕ

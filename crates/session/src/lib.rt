@@ -4,9 +4,11 @@
 
 ghost use Rattle.std.specs.Prelude.{◌≡◌};
 ghost use Rattle.lines.specs.Grammar.{lines_in};
-ghost use Rattle.page.specs.Page.{page, write, whole};
+ghost use Rattle.page.specs.Page.{page, whole};
+ghost use Rattle.page.specs.Written.{written};
 ghost use Rattle.session.specs.Session.{output_of, session_of};
 
+use page::Page;
 use state::State;
 
 // The longest input.
@@ -19,29 +21,29 @@ pub const ROOM: usize = 131072;
 pub fn run(input: &[u8], out: &mut [u8; ROOM]) -> usize
     ensures { page out.new result ≡ whole out.old (session_of input.now) }
 {
+    let mut page = Page { bytes: out, at: 0 };
     if input.len() > LIMIT {
-        return page::put(out, 0, b"too long\n");
+        page.put(b"too long\n");
+        return page.at;
     }
     let mut store = [0u8; State::STORE];
     let started = State::start(&[0u8; State::KEY]);
-    run_lines(started.state, &mut store, input, out)
+    run_lines(started.state, &mut store, input, &mut page);
+    page.at
 }
 
-// Runs each line of an input.
-fn run_lines(s: State, store: &mut [u8; State::STORE], input: &[u8], out: &mut [u8]) -> usize
-    ensures { page out.new result ≡ write (page out.old 0) (output_of s store.old (lines_in input.now)) }
+// Runs each line of an input. What follows a last newline is a line only if it is not empty, where std's `split` gives an empty one.
+fn run_lines(s: State, store: &mut [u8; State::STORE], input: &[u8], page: &mut Page)
+    ensures { page.new ≡ written page.old (output_of s store.old (lines_in input.now)) }
 {
     let mut state = s;
-    let mut at: usize = 0;
-    let mut done: usize = 0;
-    while done < input.len() {
-        let rest = &input[done..];
+    let mut rest = input;
+    while !rest.is_empty() {
         let end = lines::find(rest, lines::NEWLINE);
-        let r = commands::run(state, store, lines::parse(&rest[..end]));
-        let answer = r.answer;
-        state = r.state;
-        at = answers::say(out, at, answer);
-        done = done + end + 1;
+        let ran = commands::run(state, store, lines::parse(&rest[..end]));
+        let answer = ran.answer;
+        state = ran.state;
+        answers::say(page, answer);
+        rest = &rest[rest.len().min(end + 1)..];
     }
-    at
 }

@@ -9,15 +9,14 @@ use native.Mathlib.Omega.{arith}
 use Prim.Native.Nat.{ℕ, zero, suc, ◌+◌, ◌-◌, ◌*◌, ◌/◌, ◌%◌, ◌^◌, ◌≤◌, ◌<◌}
 use lib.Dec.{ltb, eqb}
 use lib.ListN.{length, get_or, length-append, get_or-append}
+use Rattle.std.specs.Prelude.{Some, None}
 use Rattle.text.specs.Text.{decimal_up, decimal, glyph, hex}
 use Rattle.octets.specs.Places.{same}
 use Rattle.text.specs.Read.{decimal_in, hex_in}
 use Rattle.text.specs.Digits.{digit_in}
-use Rattle.text.specs.declared.Number.TheVariants.{Of, NoNumber}
-use Rattle.text.specs.declared.Byte.TheVariants.{Is, NoByte}
 use Rattle.text.proofs.Each.{Each, each_append}
 use Rattle.octets.proofs.Same.{same_refl, same_eq}
-use Rattle.text.proofs.Seeks.{seek_is, seek_none, seek_finds, Found}
+use Rattle.text.proofs.Seeks.{seek_is, seek_none, seek_found}
 
 -- one digit, and a digit more
 up_small : (k n : ℕ) → n < 10 → decimal_up k n ≡ (48 + n) ∷ []
@@ -115,14 +114,14 @@ pub decimal_leads : (n : ℕ) → Leads n (decimal n)
 decimal_leads n = decimal_all Leads (λ m h. (omega arith, (λ p. omega arith), λ z. refl)) leads_more n
 
 -- the number that a word writes in decimal
-pub decimal_is : (w : List ℕ) (n : ℕ) → n < 65536 → decimal n ≡ w → decimal_in w ≡ Of n
+pub decimal_is : (w : List ℕ) (n : ℕ) → n < 65536 → decimal n ≡ w → decimal_in w ≡ Some n
 unfolding decimal_in
 decimal_is w n h e =
-    seek_is (λ m. same (decimal m) w) Of NoNumber 65536 n h (rw e (same_refl w)) (λ m g t. decimal_once m n (same_eq (decimal m) w t ∙ sym e))
+    seek_is (λ m. same (decimal m) w) 65536 n h (rw e (same_refl w)) (λ m g t. decimal_once m n (same_eq (decimal m) w t ∙ sym e))
 
-pub decimal_none : (w : List ℕ) → ((n : ℕ) → n < 65536 → decimal n ≡ w → ⊥) → decimal_in w ≡ NoNumber
+pub decimal_none : (w : List ℕ) → ((n : ℕ) → n < 65536 → decimal n ≡ w → ⊥) → decimal_in w ≡ None
 unfolding decimal_in
-decimal_none w u = seek_none (λ m. same (decimal m) w) Of NoNumber 65536 (λ m g t. u m g (same_eq (decimal m) w t))
+decimal_none w u = seek_none (λ m. same (decimal m) w) 65536 (λ m g t. u m g (same_eq (decimal m) w t))
 
 -- hex digits
 pub glyph_low : (d : ℕ) → d < 10 → glyph d ≡ 48 + d
@@ -152,35 +151,31 @@ glyph_once c d h g e = go (glyph_either c) (glyph_either d)
     go (inr p) (inl q) = omega arith
     go (inr p) (inr q) = omega arith
 
-pub digit_is : (b d : ℕ) → d < 16 → glyph d ≡ b → digit_in b ≡ d
+pub digit_is : (b d : ℕ) → d < 16 → glyph d ≡ b → digit_in b ≡ Some d
 unfolding digit_in
-digit_is b d h e = seek_is (λ c. eqb (glyph c) b) (λ c. c) 16 16 d h (eq-eqb (glyph d) b e) (λ m g t. glyph_once m d g h (eqb-true (glyph m) b t ∙ sym e))
+digit_is b d h e = seek_is (λ c. eqb (glyph c) b) 16 d h (eq-eqb (glyph d) b e) (λ m g t. glyph_once m d g h (eqb-true (glyph m) b t ∙ sym e))
 
-pub digit_low : (b d : ℕ) → d < 10 → 48 + d ≡ b → digit_in b ≡ d
+pub digit_low : (b d : ℕ) → d < 10 → 48 + d ≡ b → digit_in b ≡ Some d
 digit_low b d h e = digit_is b d (omega arith) (glyph_low d h ∙ e)
 
-pub digit_high : (b d : ℕ) → 10 ≤ d → d < 16 → 87 + d ≡ b → digit_in b ≡ d
+pub digit_high : (b d : ℕ) → 10 ≤ d → d < 16 → 87 + d ≡ b → digit_in b ≡ Some d
 digit_high b d g h e = digit_is b d h (glyph_high d g ∙ e)
 
-pub digit_none : (b : ℕ) → ((d : ℕ) → d < 10 → 48 + d ≡ b → ⊥) → ((d : ℕ) → 10 ≤ d → d < 16 → 87 + d ≡ b → ⊥) → digit_in b ≡ 16
+pub digit_none : (b : ℕ) → ((d : ℕ) → d < 10 → 48 + d ≡ b → ⊥) → ((d : ℕ) → 10 ≤ d → d < 16 → 87 + d ≡ b → ⊥) → digit_in b ≡ None
 unfolding digit_in
-digit_none b u v = seek_none (λ c. eqb (glyph c) b) (λ c. c) 16 16 (λ m g t. go m g (eqb-true (glyph m) b t) (glyph_either m))
+digit_none b u v = seek_none (λ c. eqb (glyph c) b) 16 (λ m g t. go m g (eqb-true (glyph m) b t) (glyph_either m))
   where
     go : (m : ℕ) → m < 16 → glyph m ≡ b → ((m < 10) × (glyph m ≡ 48 + m)) ⊎ ((10 ≤ m) × (glyph m ≡ 87 + m)) → ⊥
     go m g e (inl p) = u m p.0 (sym p.1 ∙ e)
     go m g e (inr p) = v m p.0 g (sym p.1 ∙ e)
 
 -- a byte whose digit is found is that digit
-pub digit_glyph : (b d : ℕ) → d ≡ digit_in b → d < 16 → glyph d ≡ b
+pub digit_glyph : (b d : ℕ) → digit_in b ≡ Some d → (d < 16) × (glyph d ≡ b)
 unfolding digit_in
-digit_glyph b d e h = go (seek_finds (λ c. eqb (glyph c) b) (λ c. c) 16 16)
-  where
-    go : (digit_in b ≡ 16) ⊎ Found (λ c. eqb (glyph c) b) (λ c. c) 16 16 → glyph d ≡ b
-    go (inl q) = absurd (omega arith)
-    go (inr q) = ap glyph (e ∙ q.found) ∙ eqb-true (glyph q.at) b q.passes
+digit_glyph b d e = let f = seek_found (λ c. eqb (glyph c) b) 16 d e in (f.0, eqb-true (glyph d) b f.1)
 
-pub digit_glyph_low : (b d : ℕ) → d ≡ digit_in b → d < 10 → 48 + d ≡ b
-digit_glyph_low b d e h = sym (glyph_low d h) ∙ digit_glyph b d e (omega arith)
+pub digit_glyph_low : (b d : ℕ) → digit_in b ≡ Some d → d < 10 → 48 + d ≡ b
+digit_glyph_low b d e h = sym (glyph_low d h) ∙ (digit_glyph b d e).1
 
 hex_once : (b c : ℕ) → b < 256 → c < 256 → hex b ≡ hex c → b ≡ c
 unfolding hex
@@ -194,32 +189,35 @@ unfolding Each hex
 hex_digits b = (glyph_above (b / 16), (glyph_above (b % 16), tt))
 
 -- the byte that a word writes in hex
-pub hex_is : (w : List ℕ) (b : ℕ) → b < 256 → hex b ≡ w → hex_in w ≡ Is b
+pub hex_is : (w : List ℕ) (b : ℕ) → b < 256 → hex b ≡ w → hex_in w ≡ Some b
 unfolding hex_in
-hex_is w b h e = seek_is (λ c. same (hex c) w) Is NoByte 256 b h (rw e (same_refl w)) (λ m g t. hex_once m b g h (same_eq (hex m) w t ∙ sym e))
+hex_is w b h e = seek_is (λ c. same (hex c) w) 256 b h (rw e (same_refl w)) (λ m g t. hex_once m b g h (same_eq (hex m) w t ∙ sym e))
 
-pub hex_none : (w : List ℕ) → ((b : ℕ) → b < 256 → hex b ≡ w → ⊥) → hex_in w ≡ NoByte
+pub hex_none : (w : List ℕ) → ((b : ℕ) → b < 256 → hex b ≡ w → ⊥) → hex_in w ≡ None
 unfolding hex_in
-hex_none w u = seek_none (λ m. same (hex m) w) Is NoByte 256 (λ m g t. u m g (same_eq (hex m) w t))
+hex_none w u = seek_none (λ m. same (hex m) w) 256 (λ m g t. u m g (same_eq (hex m) w t))
 
-pub hex_two : (w : List ℕ) (h l : ℕ) → length w ≡ 2 → h ≡ digit_in (get_or w 0 0) → l ≡ digit_in (get_or w 1 0) → h < 16 → l < 16 → hex_in w ≡ Is (16 * h + l)
+pub hex_two : (w : List ℕ) (h l : ℕ) → length w ≡ 2 → digit_in (get_or w 0 0) ≡ Some h → digit_in (get_or w 1 0) ≡ Some l → hex_in w ≡ Some (16 * h + l)
 unfolding hex
-hex_two [] h l n p q a b = absurd (omega arith)
-hex_two (x ∷ []) h l n p q a b = absurd (omega arith)
-hex_two (x ∷ y ∷ []) h l n p q a b =
-    let u : (16 * h + l) / 16 ≡ h = omega arith in
-    let v : (16 * h + l) % 16 ≡ l = omega arith in
-    hex_is (x ∷ y ∷ []) (16 * h + l) (omega arith) (rw (u, v, digit_glyph x h p a, digit_glyph y l q b))
-hex_two (x ∷ y ∷ z ∷ zs) h l n p q a b = absurd (omega arith)
+hex_two [] h l n p q = absurd (omega arith)
+hex_two (x ∷ []) h l n p q = absurd (omega arith)
+hex_two (x ∷ y ∷ []) h l n p q =
+    let a = digit_glyph x h p in
+    let b = digit_glyph y l q in
+    let u : (16 * h + l) / 16 ≡ h = omega (arith, a.0, b.0) in
+    let v : (16 * h + l) % 16 ≡ l = omega (arith, a.0, b.0) in
+    hex_is (x ∷ y ∷ []) (16 * h + l) (omega (arith, a.0, b.0)) (rw (u, v, a.1, b.1))
+hex_two (x ∷ y ∷ z ∷ zs) h l n p q = absurd (omega arith)
 
-pub hex_sized : (w : List ℕ) → (length w ≡ 2 → ⊥) → hex_in w ≡ NoByte
+pub hex_sized : (w : List ℕ) → (length w ≡ 2 → ⊥) → hex_in w ≡ None
 unfolding hex
 hex_sized w n = hex_none w (λ b h e. n (sym (ap length e)))
 
-pub hex_high : (w : List ℕ) (h : ℕ) → h ≡ digit_in (get_or w 0 0) → 16 ≤ h → hex_in w ≡ NoByte
+-- one of the two is no digit
+pub hex_high : (w : List ℕ) → digit_in (get_or w 0 0) ≡ None → hex_in w ≡ None
 unfolding hex
-hex_high w h p a = hex_none w (λ b g e. let d = digit_is (get_or w 0 0) (b / 16) (omega arith) (ap (λ l. get_or l 0 0) e) in omega arith)
+hex_high w q = hex_none w (λ b g e. let p = digit_is (get_or w 0 0) (b / 16) (omega arith) (ap (λ l. get_or l 0 0) e) in let z : ◌≡◌ {A = ℕ} 0 1 = cc in omega arith)
 
-pub hex_low : (w : List ℕ) (l : ℕ) → l ≡ digit_in (get_or w 1 0) → 16 ≤ l → hex_in w ≡ NoByte
+pub hex_low : (w : List ℕ) → digit_in (get_or w 1 0) ≡ None → hex_in w ≡ None
 unfolding hex
-hex_low w l p a = hex_none w (λ b g e. let d = digit_is (get_or w 1 0) (b % 16) (omega arith) (ap (λ k. get_or k 1 0) e) in omega arith)
+hex_low w q = hex_none w (λ b g e. let p = digit_is (get_or w 1 0) (b % 16) (omega arith) (ap (λ l. get_or l 1 0) e) in let z : ◌≡◌ {A = ℕ} 0 1 = cc in omega arith)

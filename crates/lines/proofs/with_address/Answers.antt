@@ -1,14 +1,12 @@
 -- `lines::with_address` meets its contract: the number is there or not, and then the name is compared. Assumes nothing.
-use mathlib.Core.Path.{sym, ◌∙◌}
+use Rattle.lines.proofs.Cuts.{same_as}
 use Rattle.lines.proofs.with_address.Goals as goal
 
-pub returns-then-equal : goal.returns-then-equal
-returns-then-equal c = rw (c.in-Of.is, sym c.equal.ensures ∙ c.if-equal.true)
+pub returns-then-eq : goal.returns-then-eq
+returns-then-eq c = rw (c.in_ok-a.was, same_as c.args.name.now c.as_slice.ensures c.eq.ensures c.if-eq.true)
 
-pub returns-then-equal-2 : goal.returns-then-equal-2
-returns-then-equal-2 c =
-    rw (c.in-Of.is, sym c.equal.ensures ∙ c.if-equal.false, sym c.equal-2.ensures ∙ c.if-equal-2.true)
+pub returns-then-eq-2 : goal.returns-then-eq-2
+returns-then-eq-2 c = rw (c.in_ok-a.was, same_as c.args.name.now c.as_slice.ensures c.eq.ensures c.if-eq.false, same_as c.args.name.now c.as_slice-2.ensures c.eq-2.ensures c.if-eq-2.true)
 
 pub returns : goal.returns
-returns c =
-    rw (c.in-Of.is, sym c.equal.ensures ∙ c.if-equal.false, sym c.equal-2.ensures ∙ c.if-equal-2.false)
+returns c = rw (c.in_ok-a.was, same_as c.args.name.now c.as_slice.ensures c.eq.ensures c.if-eq.false, same_as c.args.name.now c.as_slice-2.ensures c.eq-2.ensures c.if-eq-2.false)
