@@ -33,7 +33,11 @@ fn message_byte(m: &[u8], i: usize) -> u8
 
 // The word from byte i of the rest of a message of n bytes and its padding.
 fn padded_word(rest: &[u8], n: usize, i: usize) -> u32
-    requires { (8 * n < 2 ^ 32) × ((n % 64 ≡ length rest.now % 64) × ((length rest.now ≤ n) × ((i % 4 ≡ 0) × (i + 4 ≤ (length rest.now + 72) / 64 * 64)))) }
+    requires counted { 8 * n < 2 ^ 32 }
+    requires after_blocks { n % 64 ≡ length rest.now % 64 }
+    requires within { length rest.now ≤ n }
+    requires at_word { i % 4 ≡ 0 }
+    requires in_block { i + 4 ≤ (length rest.now + 72) / 64 * 64 }
     ensures { result ≡ word (padded n rest.now) i }
 {
     let len = rest.len();
@@ -64,7 +68,10 @@ fn whole_block(m: &[u8], i: usize) -> [u32; 16]
 
 // The block i of the rest of a message of n bytes and its padding.
 fn padded_block(rest: &[u8], n: usize, i: usize) -> [u32; 16]
-    requires { (8 * n < 2 ^ 32) × ((n % 64 ≡ length rest.now % 64) × ((length rest.now ≤ n) × (i < (length rest.now + 72) / 64))) }
+    requires counted { 8 * n < 2 ^ 32 }
+    requires after_blocks { n % 64 ≡ length rest.now % 64 }
+    requires within { length rest.now ≤ n }
+    requires in_blocks { i < (length rest.now + 72) / 64 }
     ensures { result ≡ block (padded n rest.now) i }
 {
     if 64 * i + 64 <= rest.len() {
