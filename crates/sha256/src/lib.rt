@@ -64,7 +64,7 @@ fn whole_block(m: &[u8], i: usize) -> [u32; 16]
     array::from_fn(|j| word_at(m, 64 * i + 4 * j))
 }
 
-// The block i of the same.
+// The block i of the rest of a message, of which `before` blocks stand before it, and its padding.
 fn padded_block(rest: &[u8], before: u16, i: usize) -> [u32; 16]
     requires short { length rest.now ≤ 8192 }
     requires in_blocks { i < (length rest.now + 72) / 64 }
