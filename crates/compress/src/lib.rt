@@ -36,6 +36,7 @@ fn added(s: [u32; 8], h: [u32; 8]) -> [u32; 8]
 }
 
 // The running hash after a block.
+#[tactic(auto, unfolding(crate::specs::Compress::compress))]
 pub fn compressed(h: [u32; 8], block: [u32; 16]) -> [u32; 8]
     ensures { result ≡ compress h block }
 {

@@ -11,6 +11,7 @@ use refusal::Refusal;
 use std::array;
 
 // The word from byte i of m.
+#[tactic(auto, using(octets::proofs::Layouts::number_4, crate::proofs::Blocks::word_get_d))]
 fn word_at(m: &[u8], i: usize) -> u32
     requires { i + 4 ≤ length m.now }
     ensures { result ≡ word m.now i }
