@@ -19,6 +19,8 @@ TOP = pathlib.Path(__file__).resolve().parent.parent
 RECORDS = {"Outcomes": "Outcomes : Type 1", "Exports": "Exported : Type 2"}
 # of what the toolchain reads of a contract; and of the clauses, of which alone a function that is lent a struct may be proved
 TIGHT = "Tight {0}.ended {0}Reads.Asked {0}Reads.Learnt"
+# the same of a function with a length in its type, at each length that an array may have
+TIGHT_AT = "(N : ℕ) (f : Fits w64 N) → N < 2 ^ 63 → Tight ({0}.ended (number N)) ({0}Reads.Asked N f) ({0}Reads.Learnt N f)"
 LENT = "TightLent {0}.ended (λ M 𝓤. {0}.clauses {{M = M}} {{𝓤 = 𝓤}})"
 
 # whose result is a part of the lent store
@@ -101,7 +103,7 @@ def main():
             mine = [name for one in read for form in PART for name, of in fields if of == form.format(one)]
             mine = mine[:1] if len(mine) == len(PART) else []
         else:
-            forms = [LENT.format(one) for one in short] + [TIGHT.format(one) for one in read]
+            forms = [LENT.format(one) for one in short] + [form.format(one) for one in read for form in (TIGHT, TIGHT_AT)]
             mine = [name for name, of in fields if of in forms]
         row = [row for row in rows if row[0] == path]
         if tells is False:

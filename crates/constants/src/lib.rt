@@ -5,6 +5,7 @@ ghost use Rattle.std.specs.Prelude.{◌≡◌};
 ghost use Rattle.constants.specs.Constants.{K, H0};
 
 // The 64 round constants.
+#[tactic(auto, unfolding(crate::specs::Constants::K))]
 pub fn round_constants() -> [u32; 64]
     ensures { result ≡ K }
 {
@@ -23,6 +24,7 @@ pub fn round_constants() -> [u32; 64]
 }
 
 // The 8 starting words of the running hash.
+#[tactic(auto, unfolding(crate::specs::Constants::H0))]
 pub fn initial_hash() -> [u32; 8]
     ensures { result ≡ H0 }
 {

@@ -123,14 +123,14 @@ pub fn pintlecup_lowest_free(state: &Held, address: &mut usize) -> u8
 pub fn pintlecup_digest(message: &[u8], out: &mut [u8]) -> u8
     ensures { filled result out.new ≡ digest_of message.now out.old }
 {
-    sha256::digest(message, out)
+    refusal::told(sha256::digest(message, out))
 }
 
 // The HMAC of up to 4,096 bytes under a key of up to 1,024.
 pub fn pintlecup_hmac(key: &[u8], message: &[u8], out: &mut [u8]) -> u8
     ensures { filled result out.new ≡ mac_of key.now message.now out.old }
 {
-    hmac::mac(key, message, out)
+    refusal::told(hmac::mac(key, message, out))
 }
 
 // Packs a filter record into 28 lent bytes.

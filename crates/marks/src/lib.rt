@@ -19,7 +19,8 @@ pub fn used(marks: [u64; State::WORDS], a: usize) -> bool
     false
 }
 
-// The marks with that of a set; past the last address there is none to set.
+// The marks with that of a set; past the last address there is none to set. (This and the next are two: one function of the change would have to say in its
+// contract what a closure did to the word, and be called with an or and an and.)
 pub fn with_mark(marks: [u64; State::WORDS], a: usize) -> [u64; State::WORDS]
     ensures { result ≡ marked marks a }
 {

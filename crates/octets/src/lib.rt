@@ -13,6 +13,7 @@ pub fn bytes_2(n: u16) -> [u8; 2]
 }
 
 // The number that two bytes are, most significant first.
+#[tactic(auto, using(crate::proofs::Layouts::number_2))]
 pub fn number_2(a: u8, b: u8) -> u16
     ensures { result ≡ number (a ∷ b ∷ []) }
 {

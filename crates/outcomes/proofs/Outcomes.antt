@@ -1,7 +1,14 @@
 -- A contract says what is seen of an outcome, and from what is seen the outcome is made again. Assumes nothing.
 use mathlib.Core.Path.{◌≡◌, refl, sym, ap, ◌∙◌}
 use Prim.Native.Nat.{ℕ}
-use Rattle.refusal.specs.Refusal.{Filled}
+use native.Mathlib.Omega.{arith}
+use contract.BorrowLft.{⊑_static}
+use mathlib.Core.List.{List}
+use Rattle.std.specs.Prelude.{Result}
+use Rattle.refusal.specs.Refusal.{Filled, filled}
+use Rattle.refusal.specs.Told.{told}
+use Rattle.refusal.specs.declared.Refusal.{Refusal}
+use Rattle.refusal.proofs.Again.{answer_of, told_again}
 use Rattle.state.specs.TakePut.{Seen}
 use Rattle.state.specs.declared.Moved.{Moved}
 use Rattle.state.specs.declared.Checked.{Checked}
@@ -27,6 +34,13 @@ checked y = record { number = y.number; verdict = y.verdict; state = y.state }
 abbrev pub number : Filled → ℕ
 number y = y.number
 
+-- an answer that tells its number, and what the call fills
+told_once : {L : Type 0} (lasts : Filled → L) (r r' : Result (Unit {0}) Refusal) {y : Filled} {o o' : List ℕ}
+    → filled (told r) o ≡ y → filled (told r') o' ≡ y → (r ≡ r') × (lasts (filled (told r) o) ≡ lasts (filled (told r') o'))
+told_once lasts r r' p q =
+    let k = again number lasts p q in
+    (sym (told_again r tt) ∙ ap (λ (n : ℕ). answer_of n tt) k.0 ∙ told_again r' tt, k.1)
+
 abbrev place : Page → ℕ
 place y = y.at
 
@@ -43,8 +57,8 @@ outcomes = record {
   check = record { any = λ κs a. tt; one = λ κs a r r' l l'. again checked (λ y. (tt, (y.store, tt))) };
   count = record { any = λ κs a. tt; one = λ κs a r r' l l'. plain };
   lowest_free = record { any = λ κs a. tt; one = λ κs a r r' l l'. plain };
-  digest = record { any = λ κs a. tt; one = λ κs a r r' l l'. again number (λ y. (tt, (y.out, tt))) };
-  mac = record { any = λ κs a. tt; one = λ κs a r r' l l'. again number (λ y. (tt, (tt, (y.out, tt)))) };
+  digest = record { any = λ κs a. tt; one = λ κs a r r' l l'. told_once (λ y. (tt, (y.out, tt))) r r' };
+  mac = record { any = λ κs a. tt; one = λ κs a r r' l l'. told_once (λ y. (tt, (tt, (y.out, tt)))) r r' };
   pack = record { any = λ κs a. tt; one = λ κs a r r' l l'. again number (λ y. (tt, (y.out, tt))) };
   unpack = record { any = λ κs a. tt; one = λ κs a r r' l l'. plain };
   compare = record { any = λ κs a. tt; one = λ κs a r r' l l'. plain };
@@ -75,6 +89,7 @@ outcomes = record {
   number_of_look = record { any = λ κs a. tt; one = λ κs a r r' l l'. plain };
   bytes_2 = record { any = λ κs a. tt; one = λ κs a r r' l l'. plain };
   number_2 = record { any = λ κs a. tt; one = λ κs a r r' l l'. plain };
+  xor = λ N f h. record { any = λ κs a. (⊑_static κs.0, omega arith); one = λ κs a r r' l l'. plain };
   cell = record { any = λ κs a. tt; one = λ κs a r r' l l'. plain };
   stamp_at = record { any = λ κs a. tt; one = λ κs a r r' l l'. plain };
   write = record { any = λ κs a. tt; one = λ κs a r r' l l'. again (λ y. tt) (λ y. (y, (tt, (tt, (tt, tt))))) };

@@ -1,7 +1,10 @@
 -- 01, "How tight each contract is": no public function asks anything of its arguments, and any two outcomes that its contract admits are equal.
 -- Of a function's contract, as the toolchain reads it, `Asked` is what a caller must show of the arguments, and `Learnt` what it may then rely on, of the
 -- arguments, the result and the parameters at the end of the call. So each entry speaks of the contract itself. Assumes nothing.
-use Rattle.std.specs.Prelude.{◌≡◌}
+use Rattle.std.specs.Prelude.{◌≡◌, ℕ, ◌<◌, ◌^◌}
+use mir.Syntax.{w64}
+use mir.Val.{Fits}
+use denote.Param.{number}
 use contract.Lifetimes.{Lfts}
 use denote.Triple.Entry.{Args, Res}
 use denote.Triple.Clauses.{Ended, Lasts, AtExit, at_exit}
@@ -87,6 +90,8 @@ use Rattle.octets.specs.contracts.bytes_2 as Bytes2
 use Rattle.octets.proofs.bytes_2.Reads as Bytes2Reads
 use Rattle.octets.specs.contracts.number_2 as Number2
 use Rattle.octets.proofs.number_2.Reads as Number2Reads
+use Rattle.octets.specs.contracts.xor as Xor
+use Rattle.octets.proofs.xor.Reads as XorReads
 use Rattle.entries.specs.contracts.cell as Cell
 use Rattle.entries.proofs.cell.Reads as CellReads
 use Rattle.entries.specs.contracts.value_part as ValuePart
@@ -142,6 +147,7 @@ module _ (T : Ended) where
     pub one : (κs : Lives) (a : Args T.signature κs) (r r' : Res T.signature κs) (l l' : Lasts T κs a)
         → learnt κs a r (at_exit T κs a l) → learnt κs a r' (at_exit T κs a l') → (r ≡ r') × (l ≡ l')
 
+-- (of a function with a length N in its type, at each length that an array may have)
 pub record Outcomes : Type 1 where
   -- the calls
   pub start : Tight Start.ended StartReads.Asked StartReads.Learnt
@@ -185,6 +191,7 @@ pub record Outcomes : Type 1 where
   pub number_of_look : Tight NumberOfLook.ended NumberOfLookReads.Asked NumberOfLookReads.Learnt
   pub bytes_2 : Tight Bytes2.ended Bytes2Reads.Asked Bytes2Reads.Learnt
   pub number_2 : Tight Number2.ended Number2Reads.Asked Number2Reads.Learnt
+  pub xor : (N : ℕ) (f : Fits w64 N) → N < 2 ^ 63 → Tight (Xor.ended (number N)) (XorReads.Asked N f) (XorReads.Learnt N f)
   pub cell : Tight Cell.ended CellReads.Asked CellReads.Learnt
   pub stamp_at : Tight StampAt.ended StampAtReads.Asked StampAtReads.Learnt
   pub write : Tight Write.ended WriteReads.Asked WriteReads.Learnt

@@ -11,6 +11,7 @@ use refusal::Refusal;
 use std::array;
 
 // The word from byte i of m.
+#[tactic(auto, using(octets::proofs::Layouts::number_4, crate::proofs::Blocks::word_get_d))]
 fn word_at(m: &[u8], i: usize) -> u32
     requires { i + 4 ≤ length m.now }
     ensures { result ≡ word m.now i }
@@ -31,17 +32,19 @@ fn message_byte(m: &[u8], i: usize) -> u8
     0
 }
 
-// The word from byte i of the rest of a message of n bytes and its padding.
-fn padded_word(rest: &[u8], n: usize, i: usize) -> u32
-    requires { (8 * n < 2 ^ 32) × ((n % 64 ≡ length rest.now % 64) × ((length rest.now ≤ n) × ((i % 4 ≡ 0) × (i + 4 ≤ (length rest.now + 72) / 64 * 64)))) }
-    ensures { result ≡ word (padded n rest.now) i }
+// The word from byte i of the rest of a message, of which `before` blocks stand before it, and its padding.
+fn padded_word(rest: &[u8], before: u16, i: usize) -> u32
+    requires short { length rest.now ≤ 8192 }
+    requires at_word { i % 4 ≡ 0 }
+    requires in_block { i + 4 ≤ (length rest.now + 72) / 64 * 64 }
+    ensures { result ≡ word (padded (64 * before + length rest.now) rest.now) i }
 {
     let len = rest.len();
     if i + 4 <= len {
         return word_at(rest, i);
     }
     if i + 4 == (len + 72) / 64 * 64 {
-        return (8 * n) as u32;
+        return 8 * (64 * (before as u32) + len as u32);
     }
     if i > len {
         return 0;
@@ -62,15 +65,16 @@ fn whole_block(m: &[u8], i: usize) -> [u32; 16]
     array::from_fn(|j| word_at(m, 64 * i + 4 * j))
 }
 
-// The block i of the rest of a message of n bytes and its padding.
-fn padded_block(rest: &[u8], n: usize, i: usize) -> [u32; 16]
-    requires { (8 * n < 2 ^ 32) × ((n % 64 ≡ length rest.now % 64) × ((length rest.now ≤ n) × (i < (length rest.now + 72) / 64))) }
-    ensures { result ≡ block (padded n rest.now) i }
+// The block i of the rest of a message, of which `before` blocks stand before it, and its padding.
+fn padded_block(rest: &[u8], before: u16, i: usize) -> [u32; 16]
+    requires short { length rest.now ≤ 8192 }
+    requires in_blocks { i < (length rest.now + 72) / 64 }
+    ensures { result ≡ block (padded (64 * before + length rest.now) rest.now) i }
 {
     if 64 * i + 64 <= rest.len() {
         return whole_block(rest, i);
     }
-    array::from_fn(|j| padded_word(rest, n, 64 * i + 4 * j))
+    array::from_fn(|j| padded_word(rest, before, 64 * i + 4 * j))
 }
 
 // The hash after one block more.
@@ -87,11 +91,10 @@ pub fn finish(h: [u32; 8], before: u16, rest: &[u8]) -> [u32; 8]
     if rest.len() > 8192 {
         return h;
     }
-    let n = 64 * (before as usize) + rest.len();
     let blocks = (rest.len() + 72) / 64;
     let mut s = h;
     for i in 0..blocks {
-        let next = compress::compressed(s, padded_block(rest, n, i));
+        let next = compress::compressed(s, padded_block(rest, before, i));
         s = next;
     }
     s

@@ -19,7 +19,7 @@ fn joined(a: [u8; 32], b: [u8; 32], c: [u8; 32]) -> [u8; 96] {
 // The digest of three digests.
 fn next(a: [u8; 32], b: [u8; 32], c: [u8; 32]) -> [u8; 32] {
     let mut out = [0u8; 32];
-    sha256::digest(&joined(a, b, c), &mut out);
+    let _ = sha256::digest(&joined(a, b, c), &mut out);
     out
 }
 

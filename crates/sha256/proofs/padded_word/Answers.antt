@@ -1,5 +1,5 @@
 -- `sha256::padded_word` meets its contract: the word lies in the message, or is the count's last, or has zeros only, or has the mark. Assumes nothing.
-use Rattle.std.proofs.Common.{sym, ◌∙◌, arith}
+use Rattle.std.proofs.Common.{◌+◌, ◌*◌, length, sym, ◌∙◌, arith}
 use Rattle.octets.proofs.Layouts.{number_4}
 use Rattle.sha256.specs.Sha256.{padded}
 use Rattle.sha256.proofs.Blocks.{word_first}
@@ -11,13 +11,13 @@ unfolding padded
 returns-then-i-len c = let a = c.args in c.word_at.ensures ∙ sym (word_first a.rest.now _ a.i (omega arith))
 
 pub returns-then-i-len-2 : goal.returns-then-i-len-2
-returns-then-i-len-2 c = let a = c.args in sym (word_count a.n a.rest.now (omega arith) (omega arith) a.i (omega arith))
+returns-then-i-len-2 c = let a = c.args in sym (word_count (64 * a.before + length a.rest.now) a.rest.now (omega arith) (omega arith) a.i (omega arith))
 
 pub returns-then-i-len-3 : goal.returns-then-i-len-3
-returns-then-i-len-3 c = let a = c.args in sym (word_zero a.n a.rest.now (omega arith) (omega arith) a.i (omega arith) (omega arith))
+returns-then-i-len-3 c = let a = c.args in sym (word_zero (64 * a.before + length a.rest.now) a.rest.now (omega arith) (omega arith) a.i (omega arith) (omega arith))
 
 pub returns : goal.returns
 returns c =
     let a = c.args in
     let e = number_4 c.message_byte.result c.message_byte-2.result c.message_byte-3.result c.message_byte-4.result in
-    cc (word_marked a.n a.rest.now (omega arith) (omega arith) a.i (omega arith))
+    cc (word_marked (64 * a.before + length a.rest.now) a.rest.now (omega arith) (omega arith) a.i (omega arith))
