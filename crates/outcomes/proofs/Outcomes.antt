@@ -69,6 +69,10 @@ outcomes = record {
   pack = record { any = λ κs a. tt; one = λ κs a r r' l l'. answered r r' number (λ y. (tt, (y.out, tt))) refl refl };
   unpack = record { any = λ κs a. tt; one = λ κs a r r' l l' p q. (unpacked_once r r' (p ∙ sym q), refl) };
   compare = record { any = λ κs a. tt; one = λ κs a r r' l l'. plain };
+  number_of_family = record { any = λ κs a. tt; one = λ κs a r r' l l'. plain };
+  number_of_action = record { any = λ κs a. tt; one = λ κs a r r' l l'. plain };
+  family_of_number = record { any = λ κs a. tt; one = λ κs a r r' l l'. plain };
+  action_of_number = record { any = λ κs a. tt; one = λ κs a r r' l l'. plain };
   distance = record { any = λ κs a. tt; one = λ κs a r r' l l'. plain };
   copy = record { any = λ κs a. tt; one = λ κs a r r' l l'. again (λ y. tt) (λ y. (y, (tt, tt))) };
   round_constants = record { any = λ κs a. tt; one = λ κs a r r' l l'. plain };
