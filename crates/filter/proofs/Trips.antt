@@ -18,6 +18,7 @@ use Rattle.filter.specs.declared.Family.TheVariants.{Ipv4, Ipv6}
 use Rattle.filter.specs.declared.Action.{Action}
 use Rattle.filter.specs.declared.Action.TheVariants.{Deny, Permit}
 use Rattle.filter.proofs.Fields.{same_fields, family_below, action_below}
+use Rattle.filter.proofs.Calls.{pack_done}
 use Rattle.filter.proofs.Lawful.{lawful_none, none_lawful, passed}
 
 -- ---- families and actions have one value each
@@ -111,8 +112,7 @@ prefix_length k = fit_length k.prefix
 
 -- what pack gives for a lawful filter record, and unpack for lawful bytes
 pub packs : (r : FilterRecord) (out : List ℕ) → FieldsFit r → Lawful r → length out ≡ 28 → pack_of r out ≡ filled 0 (bytes_of r)
-unfolding pack_of pack_rows
-packs r out k l n = simp (eq-eqb _ _ n, lawful_none r (prefix_length k) l)
+packs r out k l n = sym (pack_done r out n (lawful_none r (prefix_length k) l))
 
 pub unpacks : (bs : List ℕ) → LawfulBytes bs → unpack_of bs ≡ unpacked 0 (filter_in bs)
 unfolding unpack_of unpack_rows

@@ -1,5 +1,5 @@
 -- A contract says what is seen of an outcome, and from what is seen the outcome is made again. Assumes nothing.
-use mathlib.Core.Path.{◌≡◌, refl, sym, ap, ◌∙◌}
+use mathlib.Core.Path.{◌≡◌, refl, sym, ap, ap₂, ◌∙◌}
 use Prim.Native.Nat.{ℕ}
 use native.Mathlib.Omega.{arith}
 use contract.BorrowLft.{⊑_static}
@@ -9,6 +9,10 @@ use Rattle.refusal.specs.Refusal.{Filled, filled}
 use Rattle.refusal.specs.Told.{told}
 use Rattle.refusal.specs.declared.Refusal.{Refusal}
 use Rattle.refusal.proofs.Again.{answer_of, told_again}
+use Rattle.refusal.specs.Refusal.{Filled}
+use Rattle.filter.specs.Filter.{unpacked, Unpacked as Given}
+use Rattle.filter.specs.declared.FilterRecord.{FilterRecord}
+use Rattle.filter.specs.declared.Unpacked.{Unpacked}
 use Rattle.state.specs.TakePut.{Seen}
 use Rattle.state.specs.declared.Moved.{Moved}
 use Rattle.state.specs.declared.Checked.{Checked}
@@ -24,6 +28,20 @@ again result lasts p q = (ap result (p ∙ sym q), ap lasts (p ∙ sym q))
 -- a function that writes nothing
 pub plain : {R L : Type 0} {y r r' : R} {l : L} → r ≡ y → r' ≡ y → (r ≡ r') × (l ≡ l)
 plain p q = (p ∙ sym q, refl)
+
+-- an answer is known by its number
+pub once : (r r' : Result Unit Refusal) → told r ≡ told r' → r ≡ r'
+once r r' e = sym (told_again r tt) ∙ ap (λ (n : ℕ). answer_of n tt) e ∙ told_again r' tt
+
+-- a function that answers so
+pub answered : {Y L : Type 0} (r r' : Result Unit Refusal) (number : Y → ℕ) (lasts : Y → L) {y x x' : Y} → told r ≡ number x → told r' ≡ number x' → x ≡ y → x' ≡ y
+    → (r ≡ r') × (lasts x ≡ lasts x')
+answered r r' number lasts e f p q = (once r r' (e ∙ ap number (p ∙ sym q) ∙ sym f), ap lasts (p ∙ sym q))
+
+unpacked_once : (r r' : Unpacked) → unpacked (told r.answer) r.filter ≡ unpacked (told r'.answer) r'.filter → r ≡ r'
+unpacked_once r r' e =
+    ap₂ (λ (a : Result Unit Refusal) (f : FilterRecord). record { answer = a; filter = f })
+    (once r.answer r'.answer (ap (λ (u : Given). u.number) e)) (ap (λ (u : Given). u.filter) e)
 
 abbrev moved : Seen → Moved
 moved y = record { number = y.number; state = y.state }
@@ -59,12 +77,16 @@ outcomes = record {
   lowest_free = record { any = λ κs a. tt; one = λ κs a r r' l l'. plain };
   digest = record { any = λ κs a. tt; one = λ κs a r r' l l'. told_once (λ y. (tt, (y.out, tt))) r r' };
   mac = record { any = λ κs a. tt; one = λ κs a r r' l l'. told_once (λ y. (tt, (tt, (y.out, tt)))) r r' };
-  pack = record { any = λ κs a. tt; one = λ κs a r r' l l'. again number (λ y. (tt, (y.out, tt))) };
-  unpack = record { any = λ κs a. tt; one = λ κs a r r' l l'. plain };
+  pack = record { any = λ κs a. tt; one = λ κs a r r' l l'. answered r r' number (λ y. (tt, (y.out, tt))) refl refl };
+  unpack = record { any = λ κs a. tt; one = λ κs a r r' l l' p q. (unpacked_once r r' (p ∙ sym q), refl) };
   compare = record { any = λ κs a. tt; one = λ κs a r r' l l'. plain };
   refusal_number = record { any = λ κs a. tt; one = λ κs a r r' l l'. plain };
   refusal_when = record { any = λ κs a. tt; one = λ κs a r r' l l'. plain };
   told = record { any = λ κs a. tt; one = λ κs a r r' l l'. plain };
+  number_of_family = record { any = λ κs a. tt; one = λ κs a r r' l l'. plain };
+  number_of_action = record { any = λ κs a. tt; one = λ κs a r r' l l'. plain };
+  family_of_number = record { any = λ κs a. tt; one = λ κs a r r' l l'. plain };
+  action_of_number = record { any = λ κs a. tt; one = λ κs a r r' l l'. plain };
   distance = record { any = λ κs a. tt; one = λ κs a r r' l l'. plain };
   copy = record { any = λ κs a. tt; one = λ κs a r r' l l'. again (λ y. tt) (λ y. (y, (tt, tt))) };
   round_constants = record { any = λ κs a. tt; one = λ κs a r r' l l'. plain };

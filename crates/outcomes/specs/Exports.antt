@@ -28,6 +28,10 @@ use Rattle.held.specs.contracts.count as HeldCount
 use Rattle.held.proofs.count.Reads as HeldCountReads
 use Rattle.held.specs.contracts.lowest_free as HeldLowestFree
 use Rattle.held.proofs.lowest_free.Reads as HeldLowestFreeReads
+use Rattle.held.specs.contracts.FilterRecordFromFields.from as HeldRecord
+use Rattle.held.proofs.FilterRecordFromFields.from.Reads as HeldRecordReads
+use Rattle.held.specs.contracts.FieldsFromFilterRecord.from as HeldFields
+use Rattle.held.proofs.FieldsFromFilterRecord.from.Reads as HeldFieldsReads
 use Rattle.held.specs.contracts.pack as HeldPack
 use Rattle.held.proofs.pack.Reads as HeldPackReads
 use Rattle.held.specs.contracts.unpack as HeldUnpack
@@ -79,6 +83,8 @@ pub record Exported : Type 2 where
   pub held_check : Tight HeldCheck.ended HeldCheckReads.Asked HeldCheckReads.Learnt
   pub held_count : Tight HeldCount.ended HeldCountReads.Asked HeldCountReads.Learnt
   pub held_lowest_free : Tight HeldLowestFree.ended HeldLowestFreeReads.Asked HeldLowestFreeReads.Learnt
+  pub held_record : Tight HeldRecord.ended HeldRecordReads.Asked HeldRecordReads.Learnt
+  pub held_fields : Tight HeldFields.ended HeldFieldsReads.Asked HeldFieldsReads.Learnt
   pub held_pack : Tight HeldPack.ended HeldPackReads.Asked HeldPackReads.Learnt
   pub held_unpack : Tight HeldUnpack.ended HeldUnpackReads.Asked HeldUnpackReads.Learnt
   pub held_compare : Tight HeldCompare.ended HeldCompareReads.Asked HeldCompareReads.Learnt

@@ -40,6 +40,14 @@ use Rattle.filter.specs.contracts.pack as Pack
 use Rattle.filter.proofs.pack.Reads as PackReads
 use Rattle.filter.specs.contracts.unpack as Unpack
 use Rattle.filter.proofs.unpack.Reads as UnpackReads
+use Rattle.filter.specs.contracts.U8FromFamily.from as NumberOfFamily
+use Rattle.filter.proofs.U8FromFamily.from.Reads as NumberOfFamilyReads
+use Rattle.filter.specs.contracts.U8FromAction.from as NumberOfAction
+use Rattle.filter.proofs.U8FromAction.from.Reads as NumberOfActionReads
+use Rattle.filter.specs.contracts.FamilyFromU8.from as FamilyOfNumber
+use Rattle.filter.proofs.FamilyFromU8.from.Reads as FamilyOfNumberReads
+use Rattle.filter.specs.contracts.ActionFromU8.from as ActionOfNumber
+use Rattle.filter.proofs.ActionFromU8.from.Reads as ActionOfNumberReads
 use Rattle.going.specs.contracts.compare as Compare
 use Rattle.going.proofs.compare.Reads as CompareReads
 use Rattle.serials.specs.contracts.distance as Distance
@@ -167,6 +175,10 @@ pub record Outcomes : Type 1 where
   pub refusal_number : Tight RefusalNumber.ended RefusalNumberReads.Asked RefusalNumberReads.Learnt
   pub refusal_when : Tight RefusalWhen.ended RefusalWhenReads.Asked RefusalWhenReads.Learnt
   pub told : Tight Told.ended ToldReads.Asked ToldReads.Learnt
+  pub number_of_family : Tight NumberOfFamily.ended NumberOfFamilyReads.Asked NumberOfFamilyReads.Learnt
+  pub number_of_action : Tight NumberOfAction.ended NumberOfActionReads.Asked NumberOfActionReads.Learnt
+  pub family_of_number : Tight FamilyOfNumber.ended FamilyOfNumberReads.Asked FamilyOfNumberReads.Learnt
+  pub action_of_number : Tight ActionOfNumber.ended ActionOfNumberReads.Asked ActionOfNumberReads.Learnt
   pub distance : Tight Distance.ended DistanceReads.Asked DistanceReads.Learnt
   pub copy : Tight Copy.ended CopyReads.Asked CopyReads.Learnt
   pub round_constants : Tight RoundConstants.ended RoundConstantsReads.Asked RoundConstantsReads.Learnt

@@ -1,12 +1,12 @@
 -- Closed examples compute; where the buffer, the member or the serial is free, the calls' laws leave what computes. Assumes nothing.
 use mathlib.Core.Path.{◌≡◌, refl, sym, ap, ◌∙◌}
-use mathlib.Core.List.{List, [], ◌∷◌, ◌++◌}
-use Prim.Native.Nat.{ℕ, ◌/◌, ◌%◌, ◌^◌, ◌<◌, ◌≤◌}
+use mathlib.Core.List.{[], ◌∷◌, ◌++◌}
+use Prim.Native.Nat.{ℕ, ◌^◌, ◌<◌, ◌≤◌}
 use native.Mathlib.Omega.{arith}
 use lib.ListN.{take, replicate}
 use borrow.Author.Tests.{ne_eqb, le-leb}
 use Rattle.octets.specs.Layout.{total, join, split, octets, number, bytes}
-use Rattle.octets.proofs.Layouts.{fit_test, fit_each}
+use Rattle.octets.proofs.Layouts.{fit_test}
 use Rattle.refusal.specs.Refusal.{Filled, filled, first}
 use Rattle.filter.specs.Filter.{top_of, FieldsFit, parts_in, spare_in, filter_in, bytes_of, set_past, filter_rows, unpack_rows, pack_of, unpack_of}
 use Rattle.filter.specs.declared.Family.{Family}
@@ -14,7 +14,7 @@ use Rattle.filter.specs.declared.Action.{Action}
 use Rattle.promises.specs.Filters.{permit, unequal, ExampleUnequal, ExampleHost, Example6, Example7, Example8, Example9, Example10, deny11, Example11, zeros, ZerosLawful}
 use Rattle.filter.proofs.Numbers.{within_top}
 use Rattle.filter.proofs.Calls.{pack_refused, pack_done}
-use Rattle.filter.proofs.Fields.{written, front_number, word_of}
+use Rattle.filter.proofs.Fields.{head_whole, words, written}
 
 pub example_6 : Example6 pack_of unpack_of
 unfolding total join split number bytes parts_in bytes_of filter_in spare_in set_past filter_rows unpack_rows unpack_of
@@ -59,16 +59,11 @@ example_11 a s p h g out l =
     let e : pack_of (deny11 a s) out ≡ filled 0 (bytes_of (deny11 a s)) = sym (pack_done (deny11 a s) out l (rows_11 a s p)) in
     (ap (λ (x : Filled). x.number) e, ap (λ (x : Filled). take 4 x.out) e ∙ ap (take 4) (sym begins))
   where
-    hs : List ℕ
-    hs =
-        0xA0 ∷ 0x20 ∷ 0x00 ∷ 0x00 ∷ (a / 16777216) ∷ (a / 65536 % 256) ∷ (a / 256 % 256) ∷ (a % 256)
-        ∷ (s / 16777216) ∷ (s / 65536 % 256) ∷ (s / 256 % 256) ∷ (s % 256) ∷ []
+    head : ℕ
+    head = 0xA0200000
 
-    begins : hs ++ (deny11 a s).prefix ≡ bytes_of (deny11 a s)
-    begins =
-        written (deny11 a s) (fits_11 a s h g) hs
-        (fit_each (octets 12) hs (omega arith, (omega arith, (omega arith, (omega arith, (omega arith, (omega arith, (omega arith, (omega arith, (omega arith, (omega arith, (omega arith, (omega arith, tt)))))))))))))
-        refl refl (front_number 1 0 128 128 0 a s _ _ _ _ _ _ _ _ _ _ _ _ (omega arith) (word_of a) (word_of s))
+    begins : words head a s ++ (deny11 a s).prefix ≡ bytes_of (deny11 a s)
+    begins = written (deny11 a s) (fits_11 a s h g) head (omega arith) (sym (head_whole 1 0 128 128 0))
 
 zeros_rows : (f : Family) (x : Action) (l a : ℕ) → l ≤ top_of f → 0 < a → first (filter_rows (zeros f x l a)) ≡ 0
 unfolding filter_rows set_past number join total

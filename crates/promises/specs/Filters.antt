@@ -2,14 +2,13 @@
 -- Assumes nothing.
 use Rattle.std.specs.Prelude.{◌≡◌, List, [], ◌∷◌, ◌++◌, ℕ, ◌^◌, ◌<◌, length, take, set, replicate}
 use Rattle.refusal.specs.Refusal.{Filled, filled}
-use Rattle.filter.specs.Filter.{bytes_of, unpacked, zero_filter}
+use Rattle.filter.specs.Filter.{bytes_of, Unpacked, unpacked, zero_filter}
 use Rattle.filter.specs.Promises.{Within}
 use Rattle.filter.specs.declared.Family.{Family}
 use Rattle.filter.specs.declared.Family.TheVariants.{Ipv4, Ipv6}
 use Rattle.filter.specs.declared.Action.{Action}
 use Rattle.filter.specs.declared.Action.TheVariants.{Deny, Permit}
 use Rattle.filter.specs.declared.FilterRecord.{FilterRecord}
-use Rattle.filter.specs.declared.Unpacked.{Unpacked}
 
 -- permit 192.0.2.x of a length, a longest length and a member, serial 7
 abbrev pub permit : ℕ → ℕ → ℕ → ℕ → FilterRecord

@@ -8,9 +8,8 @@ use Rattle.state.specs.Calls.{Calls, calls}
 use Rattle.entries.specs.Tag.{tag}
 use Rattle.sha256.specs.Sha256.{digest_of}
 use Rattle.hmac.specs.Hmac.{mac_of}
-use Rattle.filter.specs.Filter.{pack_of, unpack_of}
+use Rattle.filter.specs.Filter.{Unpacked, pack_of, unpack_of}
 use Rattle.filter.specs.declared.FilterRecord.{FilterRecord}
-use Rattle.filter.specs.declared.Unpacked.{Unpacked}
 use Rattle.going.specs.Going.{going_of}
 use Rattle.going.specs.declared.Going.{Going}
 use Rattle.session.specs.Session.{session_of}

@@ -1,7 +1,6 @@
 -- 01, "The examples that are proved": key serials. Said of any function c that compares the filter record held with the one offered.
 -- Assumes nothing.
-use Rattle.std.specs.Prelude.{◌≡◌, ◌≢◌, ℕ, ◌^◌, ◌<◌, pos, neg_ℤ}
-use Rattle.std.proofs.Math.Option.{some}
+use Rattle.std.specs.Prelude.{◌≡◌, ◌≢◌, ℕ, ◌^◌, ◌<◌, pos, neg_ℤ, Some}
 use Rattle.filter.specs.declared.FilterRecord.{FilterRecord}
 use Rattle.going.specs.Going.{going_number}
 use Rattle.going.specs.declared.Going.{Going}
@@ -19,7 +18,7 @@ module _ (c : FilterRecord → FilterRecord → Going) where
   -- exactly 2^31 apart: 16; one more: back by the most there is; one less: forward by as much
   abbrev pub ExampleHalf : Type 0
   ExampleHalf =
-      Gives 0 2147483648 NoOrder × (going_number NoOrder ≡ some 16) × Gives 1 2147483650 (Back (neg_ℤ (pos 2147483647)))
+      Gives 0 2147483648 NoOrder × (going_number NoOrder ≡ Some 16) × Gives 1 2147483650 (Back (neg_ℤ (pos 2147483647)))
       × Gives 1 2147483648 (Forward (pos 2147483647))
 
   -- equal: forward by 0

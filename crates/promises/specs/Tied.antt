@@ -7,6 +7,7 @@ use denote.Triple.Entry.{Args, Res}
 use denote.Triple.Clauses.{Ended, Lasts, AtExit, at_exit}
 use Rattle.refusal.specs.Refusal.{filled}
 use Rattle.refusal.specs.Told.{told}
+use Rattle.filter.specs.Filter.{unpacked}
 use Rattle.lent.specs.Lent.{lies}
 use Rattle.page.specs.Page.{page, whole}
 use Rattle.state.specs.TakePut.{seen}
@@ -67,7 +68,7 @@ pub record Tied (l : Library) : Type 1 where
   pub lowest_free : Tells LowestFree.ended LowestFreeReads.Learnt (λ κs a r e. r ≡ l.store.lowest_free a.0)
   pub digest : Tells Digest.ended DigestReads.Learnt (λ κs a r e. filled (told r) e.1.0 ≡ l.digest a.0.now a.1.0.now)
   pub mac : Tells Mac.ended MacReads.Learnt (λ κs a r e. filled (told r) e.1.1.0 ≡ l.mac a.0.now a.1.0.now a.1.1.0.now)
-  pub pack : Tells Pack.ended PackReads.Learnt (λ κs a r e. filled r e.1.0 ≡ l.pack a.0 a.1.0.now)
-  pub unpack : Tells Unpack.ended UnpackReads.Learnt (λ κs a r e. r ≡ l.unpack a.0.now)
+  pub pack : Tells Pack.ended PackReads.Learnt (λ κs a r e. filled (told r) e.1.0 ≡ l.pack a.0 a.1.0.now)
+  pub unpack : Tells Unpack.ended UnpackReads.Learnt (λ κs a r e. unpacked (told r.answer) r.filter ≡ l.unpack a.0.now)
   pub compare : Tells Compare.ended CompareReads.Learnt (λ κs a r e. r ≡ l.compare a.0 a.1.0)
   pub bench : Tells Bench.ended BenchReads.Learnt (λ κs a r e. page e.1.0 r ≡ whole a.1.0.now (l.bench a.0.now))
