@@ -39,7 +39,7 @@ fn run_lines(s: State, store: &mut [u8; State::STORE], input: &[u8], page: &mut 
 {
     let mut state = s;
     let mut rest = input;
-    while !rest.is_empty() {
+    while rest.len() > 0 {
         let end = lines::find(rest, lines::NEWLINE);
         let ran = commands::run(state, store, lines::parse(&rest[..end]));
         let answer = ran.answer;
