@@ -1,40 +1,24 @@
 // An input read whole: std's `read_exact` does not say how much it read, and its `read_to_end` allocates.
-ghost use Rattle.std.specs.Prelude.{◌≡◌, ◌<◌, ◌≤◌, false, length, take};
+ghost use Rattle.std.specs.Prelude.{ℕ, ◌<◌, ◌≤◌, length, take, IfOk, IfErr};
 ghost use Rattle.std.specs.Io.KnownBytes.{Consumes, IsAtEnd};
 
+use std::io;
 use std::io::Read;
 
-// How many bytes were read, and whether a read failed after them.
-#[derive(Drop)]
-pub struct Input {
-    pub count: usize,
-    pub failed: bool,
-}
-
-// Reads until the buffer is full, the input ends or a read fails.
-pub fn read<R: Read>(reader: &mut R, buffer: &mut [u8]) -> Input
-    ensures within { result.count ≤ length buffer.new }
-    ensures bytes { Consumes (R.remaining reader.old) (R.remaining reader.new) (take result.count buffer.new) }
-    ensures whole { result.failed ≡ false → result.count < length buffer.new → IsAtEnd (R.remaining reader.new) }
+// Reads until the buffer is full, the input ends or a read fails, and gives how many bytes were read.
+pub fn read<R: Read>(reader: &mut R, buffer: &mut [u8]) -> io::Result<usize>
+    ensures within { IfOk result (λ n. n ≤ length buffer.new) }
+    ensures bytes { IfOk result (λ n. Consumes (R.remaining reader.old) (R.remaining reader.new) (take n buffer.new)) }
+    ensures whole { IfOk result (λ n. n < length buffer.new → IsAtEnd (R.remaining reader.new)) }
+    ensures failed { IfErr result (λ _. (n : ℕ) × (n ≤ length buffer.new) × Consumes (R.remaining reader.old) (R.remaining reader.new) (take n buffer.new)) }
 {
     let mut count = 0;
     while count < buffer.len() {
-        let Ok(more) = reader.read(&mut buffer[count..]) else {
-            return Input {
-                count,
-                failed: true,
-            };
-        };
+        let more = reader.read(&mut buffer[count..])?;
         if more == 0 {
-            return Input {
-                count,
-                failed: false,
-            };
+            break;
         }
         count += more;
     }
-    Input {
-        count,
-        failed: false,
-    }
+    Ok(count)
 }

@@ -9,11 +9,9 @@ use std::io;
 
 fn main(rt: HostRuntime) -> io::Result<()> {
     let mut space = [0u8; session::LIMIT + 1];
-    let found = input::read(&mut rt.stdin(), &mut space);
-    if found.failed {
+    let Ok(n) = input::read(&mut rt.stdin(), &mut space) else {
         return eprintln!(rt; "bench: a read of the input failed, and nothing was run");
-    }
-    let n = found.count;
+    };
     let mut out = [0u8; session::ROOM];
     let end = session::run(&space[..n], &mut out);
     if rt.write_all(&out[..end]).is_err() {

@@ -125,12 +125,12 @@ outcomes = record {
   reason = record { any = λ κs a. tt; one = λ κs a r r' l l'. plain };
   decimal = record { any = λ κs a. tt; one = λ κs a r r' l l'. plain };
   hex = record { any = λ κs a. tt; one = λ κs a r r' l l'. plain };
-  put = record { any = λ κs a. tt; one = λ κs a r r' l l'. again place (λ y. (y.bytes, (tt, (tt, tt)))) };
-  put_decimal = record { any = λ κs a. tt; one = λ κs a r r' l l'. again place (λ y. (y.bytes, (tt, (tt, tt)))) };
-  put_hex = record { any = λ κs a. tt; one = λ κs a r r' l l'. again place (λ y. (y.bytes, (tt, (tt, tt)))) };
+  put = record { any = λ κs a. tt; one = λ κs a r r' l l'. again (λ y. tt) (λ y. (y, (tt, tt))) };
+  put_decimal = record { any = λ κs a. tt; one = λ κs a r r' l l'. again (λ y. tt) (λ y. (y, (tt, tt))) };
+  put_hex = record { any = λ κs a. tt; one = λ κs a r r' l l'. again (λ y. tt) (λ y. (y, (tt, tt))) };
   find = record { any = λ κs a. tt; one = λ κs a r r' l l' p q. plain p.0 q.0 };
   parse = record { any = λ κs a. tt; one = λ κs a r r' l l'. plain };
-  say = record { any = λ κs a. tt; one = λ κs a r r' l l'. again place (λ y. (y.bytes, (tt, (tt, tt)))) };
+  say = record { any = λ κs a. tt; one = λ κs a r r' l l'. again (λ y. tt) (λ y. (y, (tt, tt))) };
   command = record { any = λ κs a. tt; one = λ κs a r r' l l'. again after (λ y. (tt, (y.store, (tt, tt)))) };
   run = record { any = λ κs a. tt; one = λ κs a r r' l l'. again place (λ y. (tt, (y.bytes, tt))) };
   look_any = λ κs a. tt;

@@ -92,9 +92,15 @@ write_part o l k n m h e f =
     ap₂ page (ap (λ x. take n o ++ x) (ap₂ ◌++◌ whole (drop_of_length-le (drop n o) {i = length o - n} d) ∙ append-nil (copied (drop n o) l))) f
 
 -- the place after a write lies on the page
-pub write_at : (g h : Page) (l : List ℕ) → h ≡ write g l → h.at ≤ length g.bytes
+pub written_within : (p q : code.Page) (l : List ℕ) → q ≡ written p l → q.at ≤ length q.bytes.now
 unfolding write
-write_at g h l e = rw e (omega arith)
+written_within p q l e =
+    let o = p.bytes.now in
+    let n : length (take p.at o ++ copied (drop p.at o) l) ≡ length o = omega (arith, length-append (take p.at o) (copied (drop p.at o) l), length_copied (drop p.at o) l, length-take p.at o, length-drop p.at o) in
+    rw e (omega (arith, n))
+
+pub written_none : (p : code.Page) → p.at ≤ length p.bytes.now → written p [] ≡ p
+written_none p h = ap (showing p) (write_none p.bytes.now p.at h)
 
 -- a text that fits is written whole
 pub write_whole : (o l : List ℕ) → length l ≤ length o → write (page o 0) l ≡ whole o l

@@ -2,7 +2,7 @@
 // A session reads its input and writes to a lent buffer; the trusted state and the store are its own, and begin with zero bytes.
 #![tactic(auto)]
 
-ghost use Rattle.std.specs.Prelude.{◌≡◌};
+ghost use Rattle.std.specs.Prelude.{◌≡◌, ◌≤◌, length};
 ghost use Rattle.lines.specs.Grammar.{lines_in};
 ghost use Rattle.page.specs.Page.{page, whole};
 ghost use Rattle.page.specs.Written.{written};
@@ -34,11 +34,12 @@ pub fn run(input: &[u8], out: &mut [u8; ROOM]) -> usize
 
 // Runs each line of an input. What follows a last newline is a line only if it is not empty, where std's `split` gives an empty one.
 fn run_lines(s: State, store: &mut [u8; State::STORE], input: &[u8], page: &mut Page)
+    requires { page.old.at ≤ length page.old.bytes.now }
     ensures { page.new ≡ written page.old (output_of s store.old (lines_in input.now)) }
 {
     let mut state = s;
     let mut rest = input;
-    while !rest.is_empty() {
+    while rest.len() > 0 {
         let end = lines::find(rest, lines::NEWLINE);
         let ran = commands::run(state, store, lines::parse(&rest[..end]));
         let answer = ran.answer;

@@ -1,35 +1,26 @@
 // Calls with sizes at their bounds and one beside them: each prints its sizes, the number given, and the bytes of the output or that none changed.
 ghost use Rattle.std.specs.Prelude.{◌≤◌};
 
-use crate::cases::part;
 use state::Seal;
 use std::io;
 
-// Prints a byte in hexadecimal.
-fn print_byte(rt: &impl Print, b: u8) -> io::Result<()> {
-    print!(rt; "{b:02x}")
-}
-
 // Prints bytes in hexadecimal.
 fn print_bytes(rt: &impl Print, bytes: &[u8]) -> io::Result<()> {
-    let mut i = 0;
-    while i < bytes.len() {
-        print_byte(rt, bytes[i])?;
-        i += 1;
+    for b in bytes {
+        print!(rt; "{b:02x}")?;
     }
     Ok(())
 }
 
 // Prints a number, and the output buffer where it changed.
 fn print_answer(rt: &impl Print, number: u8, out: [u8; 33]) -> io::Result<()> {
-    part(rt, b": ", number as u64)?;
-    rt.write_all(b" ")?;
+    print!(rt; ": {number} ")?;
     if out == [0x55u8; 33] {
-        rt.write_all(b"unchanged")?;
+        print!(rt; "unchanged")?;
     } else {
         print_bytes(rt, &out[0..32])?;
     }
-    rt.write_all(b"\n")
+    println!(rt;)
 }
 
 // A digest of n bytes into room bytes.
@@ -38,9 +29,8 @@ fn digest(rt: &impl Print, n: usize, room: usize) -> io::Result<()>
 {
     let message = [0xaau8; 8193];
     let mut out = [0x55u8; 33];
-    let number = refusal::told(sha256::digest(&message[0..n], &mut out[0..room]));
-    part(rt, b"digest of ", n as u64)?;
-    part(rt, b" into ", room as u64)?;
+    let number = refusal::told(sha256::digest(&message[..n], &mut out[..room]));
+    print!(rt; "digest of {n} into {room}")?;
     print_answer(rt, number, out)
 }
 
@@ -51,10 +41,8 @@ fn mac(rt: &impl Print, k: usize, n: usize, room: usize) -> io::Result<()>
     let key = [0xccu8; 1025];
     let message = [0xaau8; 4097];
     let mut out = [0x55u8; 33];
-    let number = refusal::told(hmac::mac(&key[0..k], &message[0..n], &mut out[0..room]));
-    part(rt, b"HMAC under ", k as u64)?;
-    part(rt, b" of ", n as u64)?;
-    part(rt, b" into ", room as u64)?;
+    let number = refusal::told(hmac::mac(&key[..k], &message[..n], &mut out[..room]));
+    print!(rt; "HMAC under {k} of {n} into {room}")?;
     print_answer(rt, number, out)
 }
 
@@ -84,27 +72,27 @@ pub fn macs(rt: &impl Print) -> io::Result<()> {
 }
 
 // Prints some words and a tag.
-fn print_tag(rt: &impl Print, words: &[u8], tag: [u8; 32]) -> io::Result<()> {
-    rt.write_all(words)?;
+fn print_tag(rt: &impl Print, words: &str, tag: [u8; 32]) -> io::Result<()> {
+    print!(rt; "{words}: ")?;
     print_bytes(rt, &tag)?;
-    rt.write_all(b"\n")
+    println!(rt;)
 }
 
 // The tag of 33 bytes under a key of 32; then tags of entries: under a key of zeros, and where no two bytes of the key or of the message are equal.
 pub fn tags(rt: &impl Print) -> io::Result<()> {
     print_tag(
         rt,
-        b"tag under 32 of 33: ",
+        "tag under 32 of 33",
         hmac::tag([0xccu8; 32], &[0xaau8; 33]),
     )?;
     print_tag(
         rt,
-        b"tag of an entry: ",
+        "tag of an entry",
         entries::tag(Seal { key: [0u8; 32] }, 5, [0u8; 28], 3),
     )?;
     print_tag(
         rt,
-        b"tag of an entry, all bytes different: ",
+        "tag of an entry, all bytes different",
         entries::tag(
             Seal {
                 key: *b"ABCDEFGHIJKLMNOPQRSTUVWXYZ012345",

@@ -9,10 +9,10 @@ mod values;
 use std::io;
 
 fn main(rt: HostRuntime) -> io::Result<()> {
-    cases::run(&rt, "SHA256ShortMsg.rsp", b"SHA256ShortMsg ", false)?;
-    cases::run(&rt, "SHA256LongMsg.rsp", b"SHA256LongMsg ", false)?;
-    chain::run(&rt, "SHA256Monte.rsp", b"SHA256Monte ")?;
-    cases::run(&rt, "rfc4231-sha256.txt", b"RFC 4231 ", true)?;
+    cases::digests(&rt, "SHA256ShortMsg.rsp", "SHA256ShortMsg")?;
+    cases::digests(&rt, "SHA256LongMsg.rsp", "SHA256LongMsg")?;
+    chain::run(&rt, "SHA256Monte.rsp", "SHA256Monte")?;
+    cases::tags(&rt, "rfc4231-sha256.txt", "RFC 4231")?;
     bounds::digests(&rt)?;
     bounds::macs(&rt)?;
     bounds::tags(&rt)

@@ -1,6 +1,9 @@
 -- What is left of the text falls.
-use Rattle.std.proofs.Common.{◌-◌, length}
+use Rattle.std.proofs.Common.{◌≤◌, length}
 use Rattle.vectors.proofs.values.after.Given as goal
 
-abbrev pub decreases-loop-at : goal.decreases-loop-at
-decreases-loop-at l = length l.text - l.at
+abbrev pub invariant-loop-rest : goal.invariant-loop-rest
+invariant-loop-rest l = length l.rest ≤ length l.text
+
+abbrev pub decreases-loop-rest : goal.decreases-loop-rest
+decreases-loop-rest l = length l.rest

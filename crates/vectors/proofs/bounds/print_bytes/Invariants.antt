@@ -1,9 +1,0 @@
--- `print_bytes` ends: what is left of the bytes falls.
-use Rattle.std.proofs.Common.{◌-◌, ◌≤◌, length}
-use Rattle.vectors.proofs.bounds.print_bytes.Given as goal
-
-abbrev pub invariant-loop-i : goal.invariant-loop-i
-invariant-loop-i g l = l.i ≤ length l.bytes
-
-abbrev pub decreases-loop-i : goal.decreases-loop-i
-decreases-loop-i g l = length l.bytes - l.i
