@@ -3,6 +3,7 @@
 use mathlib.Core.Path.{◌≡◌, refl}
 use mathlib.Core.Bool.{Bool, true, false, cond, ◌&&◌}
 use mathlib.Core.List.{List, [], ◌∷◌}
+use mathlib.Core.Option.{none, some}
 use Prim.Native.Nat.{ℕ, zero, suc, ◌<◌}
 use native.Mathlib.Omega.{arith}
 use borrow.Author.Tests.{ltb-true}
@@ -15,7 +16,7 @@ use Rattle.state.specs.TakePut.{Seen, seen, Outcome, with_marks, close, take_ent
 use Rattle.state.specs.Access.{address_row, add_rows, exchange_rows, remove_rows, call, added, add_of, loaded, load_of, stored, store_of, removed, remove_of}
 use Rattle.state.specs.Check.{check_rows, agrees, reason, take_all, acceptance, rejection, check_of}
 use Rattle.state.specs.declared.State.{State}
-use Rattle.state.specs.declared.Verdict.TheVariants.{Stamp, Tag, Nothing}
+use Rattle.state.specs.declared.Verdict.TheVariants.{Stamp, Tag}
 use Rattle.state.proofs.Walks.{by_takes}
 use Rattle.state.proofs.Guards.{take_first, opens}
 use Rattle.state.proofs.Ready.{by_rows, exchange_ready, remove_ready}
@@ -48,7 +49,7 @@ record Given (x : Seen) : Type 0 where
   short : Short (check_answer x.number x.verdict)
   kept : Kept x.state
 
-given_done : (s : State) (m o : List ℕ) → Kept s → Given (seen 0 Nothing s m o)
+given_done : (s : State) (m o : List ℕ) → Kept s → Given (seen 0 none s m o)
 given_done s m o k = record { number = omega arith; short = omega arith; kept = k }
 
 given_call : (rows : List Row) (s : State) (m o : List ℕ) (x : Outcome) → T (small rows) → Kept s → (first rows ≡ 0 → Given x.seen) → Given (call rows s m o x).seen
@@ -60,11 +61,11 @@ take_kept : (s : State) (m : List ℕ) (a : ℕ) → a < addresses → Kept s �
 unfolding entry_at addresses
 take_kept s m a h k = take_first tag s (λ n. n < 65536) (entry_at width m a) k (omega arith)
 
-reason_short : (s : State) → Kept s → Short (check_answer 0 (reason s))
+reason_short : (s : State) → Kept s → Short (check_answer 0 (some (reason s)))
 unfolding reason
 reason_short s k = go s.fault
   where
-    go : (b : Bool) → Short (check_answer 0 (cond b (Stamp s.first) Tag))
+    go : (b : Bool) → Short (check_answer 0 (some (cond b (Stamp s.first) Tag)))
     go true = k
     go false = tt
 

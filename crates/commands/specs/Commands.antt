@@ -1,6 +1,7 @@
 -- 01, "The bench program": what each command does to the state and the store, and its answer.
 -- Assumes nothing.
 use Rattle.std.specs.Prelude.{List, [], ◌∷◌, ℕ, get_or, replicate, Option, Some, None}
+use Rattle.std.proofs.Math.Option as maybe
 use Rattle.refusal.specs.Refusal.{done, Filled, fills}
 use Rattle.state.specs.Sizes.{width, value_size}
 use Rattle.state.specs.Cells.{write_cell}
@@ -9,7 +10,7 @@ use Rattle.state.specs.Access.{address_row, add_of, load_of, store_of, remove_of
 use Rattle.state.specs.Check.{check_of}
 use Rattle.state.specs.declared.State.{State}
 use Rattle.state.specs.declared.Verdict.{Verdict}
-use Rattle.state.specs.declared.Verdict.TheVariants.{Accept, Stamp, Tag, Nothing}
+use Rattle.state.specs.declared.Verdict.TheVariants.{Accept, Stamp, Tag}
 use Rattle.entries.specs.Tag.{tag}
 use Rattle.lines.specs.declared.Command.{Command}
 use Rattle.lines.specs.declared.Command.TheVariants.{Add, Store, Load, Remove, Check, Spoil}
@@ -31,11 +32,11 @@ abbrev pub load_answer : ℕ → ℕ → Answer
 load_answer n b = done n (answer.Loaded b) (answer.Numbered name.Load n)
 
 -- a check's answer: its verdict, or its number where it has none
-abbrev pub check_answer : ℕ → Verdict → Answer
-check_answer n Accept = answer.Accepted
-check_answer n (Stamp a) = answer.Stamp a
-check_answer n Tag = answer.Tag
-check_answer n Nothing = answer.Numbered name.Check n
+abbrev pub check_answer : ℕ → maybe.Option Verdict → Answer
+check_answer n (maybe.some Accept) = answer.Accepted
+check_answer n (maybe.some (Stamp a)) = answer.Stamp a
+check_answer n (maybe.some Tag) = answer.Tag
+check_answer n maybe.none = answer.Numbered name.Check n
 
 -- what a command leaves, and its answer
 pub record Ran : Type 0 where

@@ -1,14 +1,18 @@
 // The bench program's commands: what each does to the state and the store, and its answer.
 #![tactic(auto)]
 
-ghost use Rattle.std.specs.Prelude.{◌≡◌, length};
+ghost use Rattle.std.specs.Prelude.{◌≡◌};
+ghost use Rattle.std.specs.Result.{result_unwrap_or};
+ghost use Rattle.std.proofs.Math.Option.{some};
 ghost use Rattle.refusal.specs.Refusal.{filled};
-ghost use Rattle.state.specs.Sizes.{width, store_size};
-ghost use Rattle.lines.specs.declared.Command.TheVariants.{Add, Store, Load, Remove, Check, Spoil};
-ghost use Rattle.commands.specs.Commands.{spoil_of, load_answer, check_answer, ran, ran_command, ran_line};
+ghost use Rattle.refusal.specs.Told.{number_of, told};
+ghost use Rattle.lines.specs.declared.Command.TheVariants.{Load, Check};
+ghost use Rattle.answers.specs.declared.Answer.TheVariants.{Numbered};
+ghost use Rattle.commands.specs.Commands.{spoil_of, check_answer, ran, ran_command, ran_line};
 
 use answers::{Answer, Name};
 use lines::Command;
+use refusal::Refusal;
 use state::{State, Verdict};
 
 // The state after a command, and what is to be printed.
@@ -22,119 +26,111 @@ pub struct Ran {
 pub fn run(s: State, store: &mut [u8; State::STORE], line: Option<Command>) -> Ran
     ensures { ran result.state store.new result.answer ≡ ran_line s store.old line }
 {
-    let Some(c) = line else {
-        return Ran {
+    match line {
+        Some(c) => run_command(s, store, c),
+        None => Ran {
             state: s,
             answer: Answer::Bad,
-        };
-    };
+        },
+    }
+}
+
+// Runs a command.
+#[tactic(auto, unfolding(crate::specs::Commands::ran_command, state::specs::Sizes::value_size))]
+fn run_command(s: State, store: &mut [u8; State::STORE], c: Command) -> Ran
+    ensures { ran result.state store.new result.answer ≡ ran_command s store.old c }
+{
     match c {
-        Command::Add(a, v) => return run_add(s, store, a, v),
-        Command::Store(a, v) => return run_store(s, store, a, v),
-        Command::Load(a) => return run_load(s, store, a),
-        Command::Remove(a) => return run_remove(s, store, a),
-        Command::Check => return run_check(s, store),
-        Command::Spoil(a, v, t) => return run_spoil(s, store, a, v, t),
+        Command::Add(a, v) => {
+            let added = store::add(s, store, a as usize, &[v; State::VALUE]);
+            numbered(s, Name::Add, added)
+        },
+        Command::Store(a, v) => {
+            let stored = store::store(s, store, a as usize, &[v; State::VALUE]);
+            numbered(s, Name::Store, stored)
+        },
+        Command::Load(a) => run_load(s, store, a),
+        Command::Remove(a) => {
+            let removed = store::remove(s, store, a as usize);
+            numbered(s, Name::Remove, removed)
+        },
+        Command::Check => run_check(s, store),
+        Command::Spoil(a, v, t) => {
+            let spoilt = spoil(store, a as usize, v, t);
+            Ran {
+                state: s,
+                answer: Answer::Numbered(Name::Spoil, refusal::told(spoilt)),
+            }
+        },
     }
 }
 
-fn run_add(s: State, store: &mut [u8; State::STORE], a: u16, v: u8) -> Ran
-    ensures { ran result.state store.new result.answer ≡ ran_command s store.old (Add a v) }
+// After a call whose answer is its number.
+fn numbered(s: State, name: Name, answer: Result<State, Refusal>) -> Ran
+    ensures { (result.state ≡ result_unwrap_or answer s) × (result.answer ≡ Numbered name (told answer)) }
 {
-    let value = [v; State::VALUE];
-    let moved = store::add(s, store, a as usize, &value);
-    let state = moved.state;
-    Ran {
-        state,
-        answer: Answer::Numbered(Name::Add, moved.number),
+    match answer {
+        Ok(state) => Ran {
+            state,
+            answer: Answer::Numbered(name, 0),
+        },
+        Err(refusal) => refused(s, name, refusal),
     }
 }
 
-fn run_store(s: State, store: &mut [u8; State::STORE], a: u16, v: u8) -> Ran
-    ensures { ran result.state store.new result.answer ≡ ran_command s store.old (Store a v) }
+// After a call that is refused.
+fn refused(s: State, name: Name, refusal: Refusal) -> Ran
+    ensures { (result.state ≡ s) × (result.answer ≡ Numbered name (number_of refusal)) }
 {
-    let value = [v; State::VALUE];
-    let moved = store::store(s, store, a as usize, &value);
-    let state = moved.state;
     Ran {
-        state,
-        answer: Answer::Numbered(Name::Store, moved.number),
+        state: s,
+        answer: Answer::Numbered(name, refusal.number()),
     }
 }
 
+#[tactic(auto, using(crate::proofs::Answers::load_refused, refusal::proofs::Again::some_number), unfolding(crate::specs::Commands::ran_command, state::specs::Sizes::value_size))]
 fn run_load(s: State, store: &mut [u8; State::STORE], a: u16) -> Ran
     ensures { ran result.state store.new result.answer ≡ ran_command s store.old (Load a) }
 {
     let mut value = [0u8; State::VALUE];
-    let moved = store::load(s, store, a as usize, &mut value);
-    let state = moved.state;
-    Ran {
-        state,
-        answer: load_answer(moved.number, value[0]),
+    match store::load(s, store, a as usize, &mut value) {
+        Ok(state) => Ran {
+            state,
+            answer: Answer::Loaded(value[0]),
+        },
+        Err(refusal) => refused(s, Name::Load, refusal),
     }
 }
 
-fn load_answer(n: u8, b: u8) -> Answer
-    ensures { result ≡ load_answer n b }
-{
-    if n == 0 {
-        return Answer::Loaded(b);
-    }
-    Answer::Numbered(Name::Load, n)
-}
-
-fn run_remove(s: State, store: &mut [u8; State::STORE], a: u16) -> Ran
-    ensures { ran result.state store.new result.answer ≡ ran_command s store.old (Remove a) }
-{
-    let moved = store::remove(s, store, a as usize);
-    let state = moved.state;
-    Ran {
-        state,
-        answer: Answer::Numbered(Name::Remove, moved.number),
-    }
-}
-
+#[tactic(auto, unfolding(crate::specs::Commands::ran_command, state::specs::Sizes::value_size))]
 fn run_check(s: State, store: &mut [u8; State::STORE]) -> Ran
     ensures { ran result.state store.new result.answer ≡ ran_command s store.old Check }
 {
-    let checked = store::check(s, store);
-    let state = checked.state;
-    let verdict = checked.verdict;
-    Ran {
-        state,
-        answer: check_answer(checked.number, verdict),
+    match store::check(s, store) {
+        Ok(checked) => Ran {
+            state: checked.state,
+            answer: check_answer(checked.verdict),
+        },
+        Err(refusal) => refused(s, Name::Check, refusal),
     }
 }
 
-fn check_answer(n: u8, verdict: Verdict) -> Answer
-    ensures { result ≡ check_answer n verdict }
+fn check_answer(verdict: Verdict) -> Answer
+    ensures { result ≡ check_answer 0 (some verdict) }
 {
     match verdict {
-        Verdict::Accept => return Answer::Accepted,
-        Verdict::Stamp(a) => return Answer::Stamp(a),
-        Verdict::Tag => return Answer::Tag,
-        Verdict::Nothing => return Answer::Numbered(Name::Check, n),
-    }
-}
-
-fn run_spoil(s: State, store: &mut [u8; State::STORE], a: u16, v: u8, t: u16) -> Ran
-    ensures { ran result.state store.new result.answer ≡ ran_command s store.old (Spoil a v t) }
-{
-    let number = spoil(store, a as usize, v, t);
-    Ran {
-        state: s,
-        answer: Answer::Numbered(Name::Spoil, number),
+        Verdict::Accept => Answer::Accepted,
+        Verdict::Stamp(a) => Answer::Stamp(a),
+        Verdict::Tag => Answer::Tag,
     }
 }
 
 // Writes a value and a stamp to the cell of an address, past the checker.
-fn spoil(store: &mut [u8], a: usize, v: u8, t: u16) -> u8
-    requires { length store.old ≡ store_size width }
-    ensures { filled result store.new ≡ spoil_of store.old a v t }
+#[tactic(auto, using(refusal::proofs::Rows::refused, refusal::proofs::Rows::passed, entries::proofs::Cells::has_cell_true), unfolding(crate::specs::Commands::spoil_of, entries::specs::Place::has_cell, state::specs::Sizes::addresses, state::specs::Sizes::value_size, state::specs::Sizes::cell_size, state::specs::Sizes::store_size))]
+fn spoil(store: &mut [u8; State::STORE], a: usize, v: u8, t: u16) -> Result<(), Refusal>
+    ensures { filled (told result) store.new ≡ spoil_of store.old a v t }
 {
-    if a >= State::ADDRESSES {
-        return 2;
-    }
+    Refusal::Address.when(a >= State::ADDRESSES)?;
     entries::write(store, a, [v; State::VALUE], t);
-    0
+    Ok(())
 }

@@ -93,10 +93,10 @@ pub fn pintlecup_check(state: &mut Held, store: &mut [u8], address: &mut usize) 
 pub fn pintlecup_look(store: &[u8], address: usize) -> usize
     ensures { result ≡ look_answer width store.now address }
 {
-    if numbers::look(store, address) == 0 {
-        return State::CELL * address;
+    match numbers::look(store, address) {
+        Ok(()) => State::CELL * address,
+        Err(_) => State::STORE,
     }
-    State::STORE
 }
 
 // How many addresses are in use.

@@ -4,6 +4,7 @@ use mathlib.Core.Path.{◌≡◌, refl, sym, ap, ◌∙◌, subst}
 use mathlib.Core.Bool.{Bool, true, false}
 use mathlib.Core.List.{List}
 use mathlib.Core.Logic.{◌⊎◌, ⊎_elim, ◌↔◌, ◌≢◌}
+use mathlib.Core.Option.{Option, none, some}
 use Prim.Native.Nat.{ℕ, zero, suc, ◌<◌}
 use native.Mathlib.Omega.{arith}
 use Rattle.refusal.specs.Refusal.{done}
@@ -14,7 +15,7 @@ use Rattle.state.specs.Calls.{calls}
 use Rattle.state.specs.Table.{Answers}
 use Rattle.state.specs.declared.State.{State}
 use Rattle.state.specs.declared.Verdict.{Verdict}
-use Rattle.state.specs.declared.Verdict.TheVariants.{Accept, Stamp, Tag, Nothing}
+use Rattle.state.specs.declared.Verdict.TheVariants.{Accept, Stamp, Tag}
 use Rattle.state.proofs.Table.{table}
 use Rattle.entries.specs.Tag.{tag}
 use Rattle.filter.specs.declared.FilterRecord.{FilterRecord}
@@ -47,11 +48,11 @@ is_in_place h {y = y} line = go y.number refl
     go (suc n) e = sym (line.unchanged (λ z. let q : suc n ≡ 0 = sym e ∙ z in omega arith)).0
 
 -- a check's number beside its verdict: 0 beside an accept, and a refusal's beside none
-abbrev Fits : ℕ → Verdict → Type 0
-Fits n Accept = n ≡ 0
-Fits n (Stamp a) = Unit {0}
-Fits n Tag = Unit {0}
-Fits n Nothing = (0 < n) × (n < 254)
+abbrev Fits : ℕ → Option Verdict → Type 0
+Fits n (some Accept) = n ≡ 0
+Fits n (some (Stamp a)) = Unit {0}
+Fits n (some Tag) = Unit {0}
+Fits n none = (0 < n) × (n < 254)
 
 check_fits : (s : State) (m : List ℕ) → Fits ((calls width tag).check s m).number ((calls width tag).check s m).verdict
 check_fits s m =
@@ -62,52 +63,52 @@ check_fits s m =
     y : Seen
     y = (calls width tag).check s m
 
-    is : {v : Verdict} → y.verdict ≡ v → Fits y.number v → Fits y.number y.verdict
+    is : {v : Option Verdict} → y.verdict ≡ v → Fits y.number v → Fits y.number y.verdict
     is e = subst (Fits y.number) (sym e)
 
     refused : 0 < y.number → y.number < 254 → Fits y.number y.verdict
     refused l u = is (((table width tag).check s m).unchanged (λ z. omega (arith, l, z))).3 (l, u)
 
-    said : y.number ≡ 0 → (y.verdict ≡ Accept) ⊎ ((y.verdict ≡ Tag) ⊎ ((a : ℕ) × (y.verdict ≡ Stamp a))) → Fits y.number y.verdict
+    said : y.number ≡ 0 → (y.verdict ≡ some Accept) ⊎ ((y.verdict ≡ some Tag) ⊎ ((a : ℕ) × (y.verdict ≡ some (Stamp a)))) → Fits y.number y.verdict
     said n = ⊎_elim (λ e. is e n) (⊎_elim (λ e. is e tt) (λ e. is e.1 tt))
 
-rank : Verdict → ℕ
-rank Accept = 0
-rank (Stamp a) = 1
-rank Tag = 2
-rank Nothing = 3
+rank : Option Verdict → ℕ
+rank (some Accept) = 0
+rank (some (Stamp a)) = 1
+rank (some Tag) = 2
+rank none = 3
 
 neither : {A B : Type 0} → ¬ A → ¬ B → A ↔ B
 neither f g = ((λ a. absurd (f a)), (λ b. absurd (g b)))
 
 -- what an answer tells
 module _ (n : ℕ) where
-  accept_told : (v : Verdict) → Fits n v → (answer n v ≡ 0) ↔ (v ≡ Accept)
+  accept_told : (v : Option Verdict) → Fits n v → (answer n v ≡ 0) ↔ (v ≡ some Accept)
   unfolding rank
-  accept_told Accept h = ((λ z. refl), (λ z. h))
-  accept_told (Stamp a) h = neither (λ z. omega (arith, z)) (λ z. omega (arith, ap rank z))
-  accept_told Tag h = neither (λ z. omega (arith, z)) (λ z. omega (arith, ap rank z))
-  accept_told Nothing h = neither (λ z. omega (arith, z, h.0)) (λ z. omega (arith, ap rank z))
+  accept_told (some Accept) h = ((λ z. refl), (λ z. h))
+  accept_told (some (Stamp a)) h = neither (λ z. omega (arith, z)) (λ z. omega (arith, ap rank z))
+  accept_told (some Tag) h = neither (λ z. omega (arith, z)) (λ z. omega (arith, ap rank z))
+  accept_told none h = neither (λ z. omega (arith, z, h.0)) (λ z. omega (arith, ap rank z))
 
-  stamp_told : (v : Verdict) → Fits n v → (answer n v ≡ 254) ↔ ((a : ℕ) × (v ≡ Stamp a))
+  stamp_told : (v : Option Verdict) → Fits n v → (answer n v ≡ 254) ↔ ((a : ℕ) × (v ≡ some (Stamp a)))
   unfolding rank
-  stamp_told Accept h = neither (λ z. omega (arith, z, h)) (λ z. omega (arith, ap rank z.1))
-  stamp_told (Stamp a) h = ((λ z. (a, refl)), (λ z. refl))
-  stamp_told Tag h = neither (λ z. omega (arith, z)) (λ z. omega (arith, ap rank z.1))
-  stamp_told Nothing h = neither (λ z. omega (arith, z, h.1)) (λ z. omega (arith, ap rank z.1))
+  stamp_told (some Accept) h = neither (λ z. omega (arith, z, h)) (λ z. omega (arith, ap rank z.1))
+  stamp_told (some (Stamp a)) h = ((λ z. (a, refl)), (λ z. refl))
+  stamp_told (some Tag) h = neither (λ z. omega (arith, z)) (λ z. omega (arith, ap rank z.1))
+  stamp_told none h = neither (λ z. omega (arith, z, h.1)) (λ z. omega (arith, ap rank z.1))
 
-  tag_told : (v : Verdict) → Fits n v → (answer n v ≡ 255) ↔ (v ≡ Tag)
+  tag_told : (v : Option Verdict) → Fits n v → (answer n v ≡ 255) ↔ (v ≡ some Tag)
   unfolding rank
-  tag_told Accept h = neither (λ z. omega (arith, z, h)) (λ z. omega (arith, ap rank z))
-  tag_told (Stamp a) h = neither (λ z. omega (arith, z)) (λ z. omega (arith, ap rank z))
-  tag_told Tag h = ((λ z. refl), (λ z. refl))
-  tag_told Nothing h = neither (λ z. omega (arith, z, h.1)) (λ z. omega (arith, ap rank z))
+  tag_told (some Accept) h = neither (λ z. omega (arith, z, h)) (λ z. omega (arith, ap rank z))
+  tag_told (some (Stamp a)) h = neither (λ z. omega (arith, z)) (λ z. omega (arith, ap rank z))
+  tag_told (some Tag) h = ((λ z. refl), (λ z. refl))
+  tag_told none h = neither (λ z. omega (arith, z, h.1)) (λ z. omega (arith, ap rank z))
 
-  left_else : (v : Verdict) (a : ℕ) → answer n v ≢ 254 → stamp_or a v ≡ a
-  left_else Accept a h = refl
-  left_else (Stamp b) a h = absurd (h refl)
-  left_else Tag a h = refl
-  left_else Nothing a h = refl
+  left_else : (v : Option Verdict) (a : ℕ) → answer n v ≢ 254 → stamp_or a v ≡ a
+  left_else (some Accept) a h = refl
+  left_else (some (Stamp b)) a h = absurd (h refl)
+  left_else (some Tag) a h = refl
+  left_else none a h = refl
 
 pub same : Same (calls width tag)
 unfolding in_place held_of

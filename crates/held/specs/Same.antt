@@ -1,6 +1,7 @@
 -- The calls in place are the calls: what the state in place stands for after each is the state that the call gives back, and a check's answer and the address
 -- that it writes tell its verdict. Assumes nothing.
 use Rattle.std.specs.Prelude.{◌≡◌, List, ◌↔◌, ◌≢◌, ℕ}
+use Rattle.std.proofs.Math.Option.{some}
 use Rattle.state.specs.TakePut.{Seen}
 use Rattle.state.specs.Calls.{Calls}
 use Rattle.state.specs.declared.State.{State}
@@ -27,9 +28,9 @@ pub record Same (c : Calls) : Type 0 where
   -- the first fault's address stands in its own field
   pub first : (s : State) → (held_of s).first ≡ s.first
   -- a check answers 0 exactly where it accepts, 254 exactly where it rejects for a stamp, and 255 exactly where it rejects for the tags
-  pub accepts : (h : Held) (m : List ℕ) → ((in_place h (c.check (state_of h) m)).answer ≡ 0) ↔ ((c.check (state_of h) m).verdict ≡ Accept)
-  pub rejects_stamp : (h : Held) (m : List ℕ) → ((in_place h (c.check (state_of h) m)).answer ≡ 254) ↔ ((a : ℕ) × ((c.check (state_of h) m).verdict ≡ Stamp a))
-  pub rejects_tag : (h : Held) (m : List ℕ) → ((in_place h (c.check (state_of h) m)).answer ≡ 255) ↔ ((c.check (state_of h) m).verdict ≡ Tag)
+  pub accepts : (h : Held) (m : List ℕ) → ((in_place h (c.check (state_of h) m)).answer ≡ 0) ↔ ((c.check (state_of h) m).verdict ≡ some Accept)
+  pub rejects_stamp : (h : Held) (m : List ℕ) → ((in_place h (c.check (state_of h) m)).answer ≡ 254) ↔ ((a : ℕ) × ((c.check (state_of h) m).verdict ≡ some (Stamp a)))
+  pub rejects_tag : (h : Held) (m : List ℕ) → ((in_place h (c.check (state_of h) m)).answer ≡ 255) ↔ ((c.check (state_of h) m).verdict ≡ some Tag)
   -- with 254 the lent address is the stamp's, and with any other answer it is what it was
-  pub address : (n a : ℕ) → stamp_or n (Stamp a) ≡ a
+  pub address : (n a : ℕ) → stamp_or n (some (Stamp a)) ≡ a
   pub address_left : (h : Held) (m : List ℕ) (n : ℕ) → (in_place h (c.check (state_of h) m)).answer ≢ 254 → stamp_or n (c.check (state_of h) m).verdict ≡ n

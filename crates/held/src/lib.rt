@@ -1,10 +1,12 @@
 // What a caller in another language holds, in plain numbers: the trusted state and a filter record; and each call on them by value, under its own name.
 #![tactic(auto)]
 
-ghost use Rattle.std.specs.Prelude.{◌≡◌, []};
-ghost use Rattle.refusal.specs.Refusal.{done, filled};
+ghost use Rattle.std.specs.Prelude.{◌≡◌, List, [], ℕ};
+ghost use Rattle.std.proofs.Math.Option.{some};
+ghost use Rattle.refusal.specs.Refusal.{filled};
 ghost use Rattle.state.specs.Sizes.{width};
 ghost use Rattle.state.specs.Start.{start_of};
+ghost use Rattle.state.specs.TakePut.{moved};
 ghost use Rattle.state.specs.Marks.{count_of};
 ghost use Rattle.state.specs.Access.{add_of, load_of, store_of, remove_of, lowest_of, free_number};
 ghost use Rattle.state.specs.Check.{check_of};
@@ -17,7 +19,8 @@ ghost use Rattle.held.specs.Answers.{answer, left, in_place, stamp_or, free_or, 
 
 use filter::{Action, Family, FilterRecord};
 use going::Going;
-use state::{Free, State, Verdict};
+use refusal::Refusal;
+use state::{State, Verdict};
 
 // A multiset hash, as its caller holds it.
 #[repr(C)]
@@ -104,11 +107,9 @@ pub fn start(key: &[u8]) -> Kept
     ensures { (result.answer ≡ (start_of key.now).number) × (result.state ≡ held_of (start_of key.now).state) }
 {
     let started = State::start(key);
-    let s = started.state;
-    let state = held_of(s);
     Kept {
-        answer: started.number,
-        state,
+        answer: refusal::told(started.answer),
+        state: held_of(started.state),
     }
 }
 
@@ -116,47 +117,44 @@ pub fn add(h: Held, store: &mut [u8], a: usize, value: &[u8]) -> Kept
     ensures { left result.answer result.state store.new []
         ≡ in_place h (add_of width tag (state_of h) store.old a value.now).seen }
 {
-    let added = store::add(state_of(h), store, a, value);
-    let s = added.state;
-    Kept {
-        answer: added.number,
-        state: remains(h, added.number, s),
-    }
+    placed(h, store::add(state_of(h), store, a, value))
 }
 
 pub fn load(h: Held, store: &mut [u8], a: usize, out: &mut [u8]) -> Kept
     ensures { left result.answer result.state store.new out.new
         ≡ in_place h (load_of width tag (state_of h) store.old a out.old).seen }
 {
-    let loaded = store::load(state_of(h), store, a, out);
-    let s = loaded.state;
-    Kept {
-        answer: loaded.number,
-        state: remains(h, loaded.number, s),
-    }
+    placed(h, store::load(state_of(h), store, a, out))
 }
 
 pub fn store(h: Held, store: &mut [u8], a: usize, value: &[u8]) -> Kept
     ensures { left result.answer result.state store.new []
         ≡ in_place h (store_of width tag (state_of h) store.old a value.now).seen }
 {
-    let stored = store::store(state_of(h), store, a, value);
-    let s = stored.state;
-    Kept {
-        answer: stored.number,
-        state: remains(h, stored.number, s),
-    }
+    placed(h, store::store(state_of(h), store, a, value))
 }
 
 pub fn remove(h: Held, store: &mut [u8], a: usize) -> Kept
     ensures { left result.answer result.state store.new []
         ≡ in_place h (remove_of width tag (state_of h) store.old a).seen }
 {
-    let removed = store::remove(state_of(h), store, a);
-    let s = removed.state;
-    Kept {
-        answer: removed.number,
-        state: remains(h, removed.number, s),
+    placed(h, store::remove(state_of(h), store, a))
+}
+
+// A refused call leaves the state as it was.
+#[tactic(auto, using(crate::proofs::Place::placed), unfolding(crate::specs::Answers::in_place))]
+fn placed(h: Held, answer: Result<State, Refusal>) -> Kept
+    ensures { (m o : List ℕ) → left result.answer result.state m o ≡ in_place h (moved answer (state_of h) m o) }
+{
+    match answer {
+        Ok(s) => Kept {
+            answer: 0,
+            state: held_of(s),
+        },
+        Err(refusal) => Kept {
+            answer: refusal.number(),
+            state: h,
+        },
     }
 }
 
@@ -168,18 +166,23 @@ pub struct Judged {
     pub address: usize,
 }
 
+#[tactic(auto, using(crate::proofs::Place::placed), unfolding(crate::specs::Answers::in_place))]
 pub fn check(h: Held, store: &mut [u8], address: usize) -> Judged
     ensures { (left result.answer result.state store.new []
         ≡ in_place h (check_of width tag (state_of h) store.old).seen)
         × (result.address ≡ stamp_or address (check_of width tag (state_of h) store.old).seen.verdict) }
 {
-    let checked = store::check(state_of(h), store);
-    let v = checked.verdict;
-    let s = checked.state;
-    Judged {
-        answer: verdict_answer(checked.number, v),
-        state: remains(h, checked.number, s),
-        address: stamp_or(address, v),
+    match store::check(state_of(h), store) {
+        Ok(checked) => Judged {
+            answer: verdict_answer(checked.verdict),
+            state: held_of(checked.state),
+            address: stamp_or(address, checked.verdict),
+        },
+        Err(refusal) => Judged {
+            answer: refusal.number(),
+            state: h,
+            address,
+        },
     }
 }
 
@@ -196,13 +199,14 @@ pub struct Lowest {
     pub address: usize,
 }
 
+#[tactic(auto, unfolding(crate::specs::Held::state_of, state::specs::Access::free_number))]
 pub fn lowest_free(h: Held, address: usize) -> Lowest
     ensures { (result.number ≡ free_number (lowest_of h.marks)) × (result.address ≡ free_or address (lowest_of h.marks)) }
 {
     let free = store::lowest_free(state_of(h));
     Lowest {
-        number: free_number(free),
-        address: free_or(address, free),
+        number: refusal::told(free.and(Ok(()))),
+        address: free.unwrap_or(address),
     }
 }
 
@@ -245,16 +249,6 @@ pub fn compare(held: Fields, offered: Fields, distance: i32) -> Weighed
         answer: going_answer(going),
         distance: distance_or(distance, going),
     }
-}
-
-// How a state is left: as it was where the call is refused.
-fn remains(h: Held, number: u8, s: State) -> Held
-    ensures { result ≡ done number (held_of s) h }
-{
-    if number != 0 {
-        return h;
-    }
-    held_of(s)
 }
 
 fn state_of(h: Held) -> State
@@ -313,43 +307,23 @@ fn held_of(s: State) -> Held
     }
 }
 
-fn verdict_answer(number: u8, v: Verdict) -> u8
-    ensures { result ≡ answer number v }
+fn verdict_answer(v: Verdict) -> u8
+    ensures { result ≡ answer 0 (some v) }
 {
     match v {
-        Verdict::Accept => number,
+        Verdict::Accept => 0,
         Verdict::Stamp(a) => 254,
         Verdict::Tag => 255,
-        Verdict::Nothing => number,
     }
 }
 
 fn stamp_or(address: usize, v: Verdict) -> usize
-    ensures { result ≡ stamp_or address v }
+    ensures { result ≡ stamp_or address (some v) }
 {
     match v {
         Verdict::Accept => address,
         Verdict::Stamp(a) => a as usize,
         Verdict::Tag => address,
-        Verdict::Nothing => address,
-    }
-}
-
-fn free_number(free: Free) -> u8
-    ensures { result ≡ free_number free }
-{
-    match free {
-        Free::At(a) => 0,
-        Free::Full => 9,
-    }
-}
-
-fn free_or(address: usize, free: Free) -> usize
-    ensures { result ≡ free_or address free }
-{
-    match free {
-        Free::At(a) => a,
-        Free::Full => address,
     }
 }
 

@@ -2,16 +2,17 @@
 use mathlib.Core.Path.{◌≡◌, refl, sym, ap, ◌∙◌, subst}
 use mathlib.Core.Bool.{Bool, true, false, cond, not}
 use mathlib.Core.List.{List, [], ◌∷◌, ◌++◌}
-use mathlib.Core.Logic.{⊎_elim, ◌↔◌}
+use mathlib.Core.Logic.{◌⊎◌, inl, inr, ⊎_elim, ◌↔◌}
 use Prim.Native.Nat.{ℕ, zero, suc, ◌+◌, ◌-◌, ◌/◌, ◌^◌, ◌≤◌, ◌<◌}
 use native.Mathlib.Nat.{eq-or-lt_of_le}
 use native.Mathlib.Omega.{arith}
 use lib.ListN.{length, get_or, length-append}
+use Rattle.std.specs.Prelude.{Ok, Err}
+use Rattle.refusal.specs.declared.Refusal.TheVariants.{NoneFree}
 use borrow.Author.Tests.{eq-eqb, ne_eqb, not-true, not-false}
 use Rattle.state.specs.Sizes.{addresses}
 use Rattle.state.specs.Marks.{used, used_below, count_below, first_from, lowest_free}
 use Rattle.state.specs.Access.{lowest_of, free_number}
-use Rattle.state.specs.declared.Free.TheVariants.{At, Full}
 use Rattle.marks.specs.Next.{next_used}
 use Rattle.marks.proofs.Words.{complements, used_complements}
 
@@ -87,15 +88,19 @@ abbrev pub AllUsed : List ℕ → Type 0
 AllUsed ws = (a : ℕ) → a < addresses → used ws a ≡ true
 
 -- an address where the search ends below the last, and else none
-at_below : (ws : List ℕ) → lowest_free ws < addresses → lowest_of ws ≡ At (lowest_free ws)
+at_below : (ws : List ℕ) → lowest_free ws < addresses → lowest_of ws ≡ Ok (lowest_free ws)
 unfolding lowest_of
 at_below ws h = rw (ne_eqb (lowest_free ws) addresses (λ e. omega arith))
 
-full_at : (ws : List ℕ) → lowest_free ws ≡ addresses → lowest_of ws ≡ Full
+full_at : (ws : List ℕ) → lowest_free ws ≡ addresses → lowest_of ws ≡ Err NoneFree
 unfolding lowest_of
 full_at ws e = rw (eq-eqb (lowest_free ws) addresses e)
 
-pub lowest_at : (ws : List ℕ) (a : ℕ) → (lowest_of ws ≡ At a) ↔ Lowest ws a
+pub lowest_told : (ws : List ℕ) → (lowest_of ws ≡ Err NoneFree) ⊎ ((a : ℕ) × (lowest_of ws ≡ Ok a))
+unfolding addresses
+lowest_told ws = ⊎_elim (λ e. inl (full_at ws e)) (λ h. inr (lowest_free ws, at_below ws h)) (eq-or-lt_of_le (lowest_is ws).to)
+
+pub lowest_at : (ws : List ℕ) (a : ℕ) → (lowest_of ws ≡ Ok a) ↔ Lowest ws a
 unfolding free_number addresses
 lowest_at ws a = (
   (λ e.
@@ -115,10 +120,10 @@ lowest_at ws a = (
         before = λ b g h. ap not (l.before b h);
         here = λ h. ap not l.free;
       }) in
-      at_below ws (omega (arith, l.below)) ∙ ap At q),
+      at_below ws (omega (arith, l.below)) ∙ ap Ok q),
 )
 
-pub lowest_full : (ws : List ℕ) → (lowest_of ws ≡ Full) ↔ AllUsed ws
+pub lowest_full : (ws : List ℕ) → (lowest_of ws ≡ Err NoneFree) ↔ AllUsed ws
 unfolding free_number addresses
 lowest_full ws = (
   (λ e a h.

@@ -1,74 +1,66 @@
-// The number that each call of the store gives: its rows of the table of numbers, in the call's order. 0: no row holds, and the call is done.
-#![tactic(auto)]
+// Why each call of the store is refused: the first of its rows of the table of numbers that holds, in the call's order. Where none holds the call is done.
+#![tactic(auto, using(refusal::proofs::Rows::refused, refusal::proofs::Rows::passed, refusal::proofs::Rows::last), unfolding(state::specs::Access::add_rows, state::specs::Access::exchange_rows, state::specs::Access::remove_rows, state::specs::Access::look_rows, state::specs::Check::check_rows, state::specs::Sizes::addresses, state::specs::Sizes::value_size, state::specs::Sizes::cell_size, state::specs::Sizes::store_size, state::specs::Sizes::ceiling))]
 
-ghost use Rattle.std.specs.Prelude.{◌≡◌};
-ghost use Rattle.refusal.specs.Refusal.{when, first};
+ghost use Rattle.std.specs.Prelude.{◌≡◌, ◌∷◌, []};
+ghost use Rattle.refusal.specs.Refusal.{first};
+ghost use Rattle.refusal.specs.Told.{told};
 ghost use Rattle.state.specs.Sizes.{width};
-ghost use Rattle.state.specs.Access.{add_rows, exchange_rows, remove_rows, look_rows};
+ghost use Rattle.state.specs.Access.{closed_row, store_row, address_row, add_rows, exchange_rows, remove_rows, look_rows};
 ghost use Rattle.state.specs.Check.{check_rows};
-ghost use Rattle.numbers.specs.Rows.{further};
 
+use refusal::Refusal;
 use state::State;
 
-// The number given so far; a further row's where there is none and the row holds.
-fn row(given: u8, number: u8, holds: bool) -> u8
-    ensures { result ≡ further given (when number holds) }
+// What add, load, store and remove begin with.
+fn addressed(s: State, store: &[u8], a: usize) -> Result<(), Refusal>
+    ensures { told result ≡ first (closed_row s ∷ store_row width store.now ∷ address_row a ∷ []) }
 {
-    if given == 0 && holds {
-        return number;
-    }
-    given
+    check(s, store)?;
+    Refusal::Address.when(!(a < State::ADDRESSES))
 }
 
-// An add's number.
-pub fn add(s: State, store: &[u8], a: usize, value: &[u8]) -> u8
-    ensures { result ≡ first (add_rows width s store.now a value.now) }
+// An add's.
+pub fn add(s: State, store: &[u8], a: usize, value: &[u8]) -> Result<(), Refusal>
+    ensures { told result ≡ first (add_rows width s store.now a value.now) }
 {
-    let m = s.marks;
-    let n = row(0, 7, s.closed);
-    let n = row(n, 1, store.len() != State::STORE);
-    let n = row(n, 2, !(a < State::ADDRESSES));
-    let n = row(n, 3, value.len() != State::VALUE);
-    let n = row(n, 4, marks::used(m, a));
-    row(n, 6, s.clock == State::CEILING)
+    let used = marks::used(s.marks, a);
+    addressed(s, store, a)?;
+    Refusal::BufferSize.when(value.len() != State::VALUE)?;
+    Refusal::InUse.when(used)?;
+    Refusal::Ceiling.when(s.clock == State::CEILING)
 }
 
 // A load's or a store's, by its out buffer or its value.
-pub fn exchange(s: State, store: &[u8], a: usize, buffer: &[u8]) -> u8
-    ensures { result ≡ first (exchange_rows width s store.now a buffer.now) }
+pub fn exchange(s: State, store: &[u8], a: usize, buffer: &[u8]) -> Result<(), Refusal>
+    ensures { told result ≡ first (exchange_rows width s store.now a buffer.now) }
 {
-    let m = s.marks;
-    let n = row(0, 7, s.closed);
-    let n = row(n, 1, store.len() != State::STORE);
-    let n = row(n, 2, !(a < State::ADDRESSES));
-    let n = row(n, 3, buffer.len() != State::VALUE);
-    let n = row(n, 5, !marks::used(m, a));
-    row(n, 6, s.clock == State::CEILING)
+    let used = marks::used(s.marks, a);
+    addressed(s, store, a)?;
+    Refusal::BufferSize.when(buffer.len() != State::VALUE)?;
+    Refusal::NotInUse.when(!used)?;
+    Refusal::Ceiling.when(s.clock == State::CEILING)
 }
 
 // A remove's.
-pub fn remove(s: State, store: &[u8], a: usize) -> u8
-    ensures { result ≡ first (remove_rows width s store.now a) }
+pub fn remove(s: State, store: &[u8], a: usize) -> Result<(), Refusal>
+    ensures { told result ≡ first (remove_rows width s store.now a) }
 {
-    let m = s.marks;
-    let n = row(0, 7, s.closed);
-    let n = row(n, 1, store.len() != State::STORE);
-    let n = row(n, 2, !(a < State::ADDRESSES));
-    row(n, 5, !marks::used(m, a))
+    addressed(s, store, a)?;
+    Refusal::NotInUse.when(!marks::used(s.marks, a))
 }
 
 // A check's.
-pub fn check(s: State, store: &[u8]) -> u8
-    ensures { result ≡ first (check_rows width s store.now) }
+pub fn check(s: State, store: &[u8]) -> Result<(), Refusal>
+    ensures { told result ≡ first (check_rows width s store.now) }
 {
-    let closed = row(0, 7, s.closed);
-    row(closed, 1, store.len() != State::STORE)
+    Refusal::Closed.when(s.closed)?;
+    Refusal::StoreSize.when(store.len() != State::STORE)
 }
 
 // A look's, which is not told: it gives no bytes instead.
-pub fn look(store: &[u8], a: usize) -> u8
-    ensures { result ≡ first (look_rows width store.now a) }
+pub fn look(store: &[u8], a: usize) -> Result<(), Refusal>
+    ensures { told result ≡ first (look_rows width store.now a) }
 {
-    let n = row(0, 1, store.len() != State::STORE);
-    row(n, 2, !(a < State::ADDRESSES))
+    Refusal::StoreSize.when(store.len() != State::STORE)?;
+    Refusal::Address.when(!(a < State::ADDRESSES))
 }

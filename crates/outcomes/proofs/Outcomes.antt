@@ -1,21 +1,24 @@
 -- A contract says what is seen of an outcome, and from what is seen the outcome is made again. Assumes nothing.
-use mathlib.Core.Path.{◌≡◌, refl, sym, ap, ap₂, ◌∙◌}
+use mathlib.Core.Path.{◌≡◌, refl, sym, ap, ◌∙◌}
 use Prim.Native.Nat.{ℕ}
 use native.Mathlib.Omega.{arith}
 use contract.BorrowLft.{⊑_static}
 use mathlib.Core.List.{List}
-use Rattle.std.specs.Prelude.{Result}
-use Rattle.refusal.specs.Refusal.{Filled, filled}
+use mathlib.Core.Option.{Option, none, some}
+use Rattle.std.specs.Prelude.{Result, Ok, Err}
+use Rattle.refusal.specs.Refusal.{Filled}
 use Rattle.refusal.specs.Told.{told}
 use Rattle.refusal.specs.declared.Refusal.{Refusal}
 use Rattle.refusal.proofs.Again.{answer_of, told_again}
-use Rattle.refusal.specs.Refusal.{Filled}
 use Rattle.filter.specs.Filter.{unpacked, Unpacked as Given}
-use Rattle.filter.specs.declared.FilterRecord.{FilterRecord}
 use Rattle.filter.specs.declared.Unpacked.{Unpacked}
-use Rattle.state.specs.TakePut.{Seen}
-use Rattle.state.specs.declared.Moved.{Moved}
+use Rattle.state.specs.Start.{Begun, started}
+use Rattle.state.specs.TakePut.{Seen, checked}
 use Rattle.state.specs.declared.Checked.{Checked}
+use Rattle.state.specs.declared.Started.{Started}
+use Rattle.state.specs.declared.State.{State}
+use Rattle.state.specs.declared.Verdict.{Verdict}
+use Rattle.state.specs.declared.Verdict.TheVariants.{Tag}
 use Rattle.page.specs.Page.{Page}
 use Rattle.commands.specs.Commands.{Ran as Left}
 use Rattle.commands.specs.declared.Ran.{Ran}
@@ -29,35 +32,49 @@ again result lasts p q = (ap result (p ∙ sym q), ap lasts (p ∙ sym q))
 pub plain : {R L : Type 0} {y r r' : R} {l : L} → r ≡ y → r' ≡ y → (r ≡ r') × (l ≡ l)
 plain p q = (p ∙ sym q, refl)
 
--- an answer is known by its number
-pub once : (r r' : Result Unit Refusal) → told r ≡ told r' → r ≡ r'
-once r r' e = sym (told_again r tt) ∙ ap (λ (n : ℕ). answer_of n tt) e ∙ told_again r' tt
+-- where what is seen is made of the result, and the result of it
+pub seen_again : {Y R L : Type 0} (result : Y → R) (lasts : Y → L) {x x' y : Y} {r r' : R} → result x ≡ r → result x' ≡ r' → x ≡ y → x' ≡ y → (r ≡ r') × (lasts x ≡ lasts x')
+seen_again result lasts f g p q = let k = again result lasts p q in (sym f ∙ k.0 ∙ g, k.1)
 
--- a function that answers so
-pub answered : {Y L : Type 0} (r r' : Result Unit Refusal) (number : Y → ℕ) (lasts : Y → L) {y x x' : Y} → told r ≡ number x → told r' ≡ number x' → x ≡ y → x' ≡ y
-    → (r ≡ r') × (lasts x ≡ lasts x')
-answered r r' number lasts e f p q = (once r r' (e ∙ ap number (p ∙ sym q) ∙ sym f), ap lasts (p ∙ sym q))
+-- an answer that gives nothing, by its number
+abbrev answered : ℕ → Result Unit Refusal
+answered n = answer_of n tt
 
-unpacked_once : (r r' : Unpacked) → unpacked (told r.answer) r.filter ≡ unpacked (told r'.answer) r'.filter → r ≡ r'
-unpacked_once r r' e =
-    ap₂ (λ (a : Result Unit Refusal) (f : FilterRecord). record { answer = a; filter = f })
-    (once r.answer r'.answer (ap (λ (u : Given). u.number) e)) (ap (λ (u : Given). u.filter) e)
+by_number : {L : Type 0} {r r' : Result Unit Refusal} {l : L} {n : ℕ} → told r ≡ n → told r' ≡ n → (r ≡ r') × (l ≡ l)
+by_number {r = r} {r' = r'} p q = (sym (told_again r tt) ∙ ap answered (p ∙ sym q) ∙ told_again r' tt, refl)
 
-abbrev moved : Seen → Moved
-moved y = record { number = y.number; state = y.state }
+abbrev begun : Begun → Started
+begun y = record { answer = answered y.number; state = y.state }
 
-abbrev checked : Seen → Checked
-checked y = record { number = y.number; verdict = y.verdict; state = y.state }
+begun_again : (r : Started) → begun (started (told r.answer) r.state) ≡ r
+begun_again r = ap (λ (x : Result Unit Refusal). record { answer = x; state = r.state }) (told_again r.answer tt)
+
+abbrev moved : Seen → Result State Refusal
+moved y = answer_of y.number y.state
+
+verdict_or : Option Verdict → Verdict
+verdict_or (some v) = v
+verdict_or none = Tag
+
+abbrev checks : Seen → Result Checked Refusal
+checks y = answer_of y.number (record { verdict = verdict_or y.verdict; state = y.state })
+
+checks_again : (r : Result Checked Refusal) (s : State) (m : List ℕ) → checks (checked r s m) ≡ r
+unfolding verdict_or
+checks_again (Ok c) s m = refl
+checks_again (Err e) s m = told_again (Err e) _
 
 abbrev pub number : Filled → ℕ
 number y = y.number
 
--- an answer that tells its number, and what the call fills
-told_once : {L : Type 0} (lasts : Filled → L) (r r' : Result (Unit {0}) Refusal) {y : Filled} {o o' : List ℕ}
-    → filled (told r) o ≡ y → filled (told r') o' ≡ y → (r ≡ r') × (lasts (filled (told r) o) ≡ lasts (filled (told r') o'))
-told_once lasts r r' p q =
-    let k = again number lasts p q in
-    (sym (told_again r tt) ∙ ap (λ (n : ℕ). answer_of n tt) k.0 ∙ told_again r' tt, k.1)
+abbrev filling : Filled → Result Unit Refusal
+filling y = answered (number y)
+
+abbrev given : Given → Unpacked
+given y = record { answer = answered y.number; filter = y.filter }
+
+given_again : (r : Unpacked) → given (unpacked (told r.answer) r.filter) ≡ r
+given_again r = ap (λ (x : Result Unit Refusal). record { answer = x; filter = r.filter }) (told_again r.answer tt)
 
 abbrev place : Page → ℕ
 place y = y.at
@@ -67,18 +84,18 @@ after y = record { state = y.state; answer = y.answer }
 
 pub outcomes : Outcomes
 outcomes = record {
-  start = record { any = λ κs a. tt; one = λ κs a r r' l l'. plain };
-  add = record { any = λ κs a. tt; one = λ κs a r r' l l'. again moved (λ y. (tt, (y.store, (tt, (tt, tt))))) };
-  load = record { any = λ κs a. tt; one = λ κs a r r' l l'. again moved (λ y. (tt, (y.store, (tt, (y.out, tt))))) };
-  store = record { any = λ κs a. tt; one = λ κs a r r' l l'. again moved (λ y. (tt, (y.store, (tt, (tt, tt))))) };
-  remove = record { any = λ κs a. tt; one = λ κs a r r' l l'. again moved (λ y. (tt, (y.store, (tt, tt)))) };
-  check = record { any = λ κs a. tt; one = λ κs a r r' l l'. again checked (λ y. (tt, (y.store, tt))) };
+  start = record { any = λ κs a. tt; one = λ κs a r r' l l'. seen_again begun (λ y. (tt, tt)) (begun_again r) (begun_again r') };
+  add = record { any = λ κs a. tt; one = λ κs a r r' l l'. seen_again moved (λ y. (tt, (y.store, (tt, (tt, tt))))) (told_again r a.0) (told_again r' a.0) };
+  load = record { any = λ κs a. tt; one = λ κs a r r' l l'. seen_again moved (λ y. (tt, (y.store, (tt, (y.out, tt))))) (told_again r a.0) (told_again r' a.0) };
+  store = record { any = λ κs a. tt; one = λ κs a r r' l l'. seen_again moved (λ y. (tt, (y.store, (tt, (tt, tt))))) (told_again r a.0) (told_again r' a.0) };
+  remove = record { any = λ κs a. tt; one = λ κs a r r' l l'. seen_again moved (λ y. (tt, (y.store, (tt, tt)))) (told_again r a.0) (told_again r' a.0) };
+  check = record { any = λ κs a. tt; one = λ κs a r r' l l'. seen_again checks (λ y. (tt, (y.store, tt))) (checks_again r a.0 l.1.0) (checks_again r' a.0 l'.1.0) };
   count = record { any = λ κs a. tt; one = λ κs a r r' l l'. plain };
   lowest_free = record { any = λ κs a. tt; one = λ κs a r r' l l'. plain };
-  digest = record { any = λ κs a. tt; one = λ κs a r r' l l'. told_once (λ y. (tt, (y.out, tt))) r r' };
-  mac = record { any = λ κs a. tt; one = λ κs a r r' l l'. told_once (λ y. (tt, (tt, (y.out, tt)))) r r' };
-  pack = record { any = λ κs a. tt; one = λ κs a r r' l l'. answered r r' number (λ y. (tt, (y.out, tt))) refl refl };
-  unpack = record { any = λ κs a. tt; one = λ κs a r r' l l' p q. (unpacked_once r r' (p ∙ sym q), refl) };
+  digest = record { any = λ κs a. tt; one = λ κs a r r' l l'. seen_again filling (λ y. (tt, (y.out, tt))) (told_again r tt) (told_again r' tt) };
+  mac = record { any = λ κs a. tt; one = λ κs a r r' l l'. seen_again filling (λ y. (tt, (tt, (y.out, tt)))) (told_again r tt) (told_again r' tt) };
+  pack = record { any = λ κs a. tt; one = λ κs a r r' l l'. seen_again filling (λ y. (tt, (y.out, tt))) (told_again r tt) (told_again r' tt) };
+  unpack = record { any = λ κs a. tt; one = λ κs a r r' l l'. seen_again given (λ y. (tt, tt)) (given_again r) (given_again r') };
   compare = record { any = λ κs a. tt; one = λ κs a r r' l l'. plain };
   refusal_number = record { any = λ κs a. tt; one = λ κs a r r' l l'. plain };
   refusal_when = record { any = λ κs a. tt; one = λ κs a r r' l l'. plain };
@@ -104,11 +121,11 @@ outcomes = record {
   marks_count = record { any = λ κs a. tt; one = λ κs a r r' l l'. plain };
   lowest = record { any = λ κs a. tt; one = λ κs a r r' l l'. plain };
   next_used = record { any = λ κs a. tt; one = λ κs a r r' l l'. plain };
-  number_of_add = record { any = λ κs a. tt; one = λ κs a r r' l l'. plain };
-  number_of_exchange = record { any = λ κs a. tt; one = λ κs a r r' l l'. plain };
-  number_of_remove = record { any = λ κs a. tt; one = λ κs a r r' l l'. plain };
-  number_of_check = record { any = λ κs a. tt; one = λ κs a r r' l l'. plain };
-  number_of_look = record { any = λ κs a. tt; one = λ κs a r r' l l'. plain };
+  number_of_add = record { any = λ κs a. tt; one = λ κs a r r' l l'. by_number };
+  number_of_exchange = record { any = λ κs a. tt; one = λ κs a r r' l l'. by_number };
+  number_of_remove = record { any = λ κs a. tt; one = λ κs a r r' l l'. by_number };
+  number_of_check = record { any = λ κs a. tt; one = λ κs a r r' l l'. by_number };
+  number_of_look = record { any = λ κs a. tt; one = λ κs a r r' l l'. by_number };
   bytes_2 = record { any = λ κs a. tt; one = λ κs a r r' l l'. plain };
   number_2 = record { any = λ κs a. tt; one = λ κs a r r' l l'. plain };
   xor = λ N f h. record { any = λ κs a. (⊑_static κs.0, omega arith); one = λ κs a r r' l l'. plain };

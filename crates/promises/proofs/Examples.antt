@@ -4,6 +4,7 @@ use borrow.Author.Tests.{eq-eqb, ne_eqb, lt-ltb}
 use mathlib.Core.Path.{◌≡◌, refl, sym, ap, ◌∙◌}
 use mathlib.Core.Bool.{false, cond, true≢false}
 use mathlib.Core.List.{List, [], ◌∷◌, ◌++◌, append-nil}
+use mathlib.Core.Option.{some}
 use mathlib.Core.Logic.{⊎_elim}
 use Prim.Native.Nat.{ℕ, ◌+◌, ◌<◌}
 use native.Mathlib.Omega.{arith}
@@ -107,7 +108,7 @@ example_marked s m c l f =
     (⊎_elim (λ k. (k.0, ⊎_elim (λ q. q.1) (λ q. absurd (true≢false (sym f ∙ q.0))) k.1)) (λ k. absurd (true≢false (sym f ∙ k.1.0))) (taken_each tag (taken width s.marks m) s).fault)
 
 -- a check that names an address leaves the state as it was, but closed
-named_left : (s : State) (m : List ℕ) (a : ℕ) → Typed s → first (check_rows width s m) ≡ 0 → (library.store.check s m).verdict ≡ Stamp a → Rejected s m (library.store.check s m)
+named_left : (s : State) (m : List ℕ) (a : ℕ) → Typed s → first (check_rows width s m) ≡ 0 → (library.store.check s m).verdict ≡ some (Stamp a) → Rejected s m (library.store.check s m)
 unfolding outcome_of
 named_left s m a y e v =
     ⊎_elim (λ k. let w = sym k.0 ∙ v in let z : ◌≡◌ {A = ℕ} 0 1 = cc in absurd (omega arith)) (λ k. k.2) ((effects width tag).check s m y (check_number width tag s m e))

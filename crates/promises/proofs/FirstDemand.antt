@@ -3,11 +3,13 @@ use mathlib.Core.Path.{◌≡◌, refl, sym, ap, ◌∙◌, subst}
 use mathlib.Core.Bool.{false≢true}
 use mathlib.Core.List.{List, [], ◌∷◌}
 use mathlib.Core.Logic.{◌⊎◌, inl, inr, ⊎_elim, ◌↔◌, ◌≢◌}
-use mathlib.Core.Option.{none, some}
+use mathlib.Core.Option.{Option, none, some}
 use Prim.Native.Nat.{ℕ, zero, suc, ◌<◌}
 use native.Mathlib.Omega.{arith}
 use lib.ListN.{length}
+use Rattle.std.specs.Prelude.{Result, Ok, Err}
 use Rattle.refusal.specs.Refusal.{first}
+use Rattle.refusal.specs.declared.Refusal.{Refusal}
 use Rattle.refusal.specs.Cases.{given, FirstOf}
 use Rattle.refusal.proofs.Cases.{TestsAll, above, differ, either, first_of}
 use Rattle.refusal.proofs.Passed.{done_other}
@@ -19,13 +21,11 @@ use Rattle.state.specs.TakePut.{Seen}
 use Rattle.state.specs.Access.{lowest_of, free_number, free_address}
 use Rattle.state.specs.Check.{verdict_number, verdict_accepts, verdict_address}
 use Rattle.state.specs.declared.State.{State}
-use Rattle.state.specs.declared.Free.{Free}
-use Rattle.state.specs.declared.Free.TheVariants.{At, Full}
 use Rattle.state.specs.declared.Verdict.{Verdict}
-use Rattle.state.specs.declared.Verdict.TheVariants.{Accept, Stamp, Tag, Nothing}
+use Rattle.state.specs.declared.Verdict.TheVariants.{Accept, Stamp, Tag}
 use Rattle.state.proofs.Table.{table}
 use Rattle.state.proofs.Marked.{marked_used, used_marks, unset}
-use Rattle.marks.proofs.Sets.{count_length, lowest_at, lowest_full}
+use Rattle.marks.proofs.Sets.{count_length, lowest_told, lowest_at, lowest_full}
 use Rattle.entries.specs.Tag.{tag}
 use Rattle.filter.proofs.Numbers.{numbers}
 use Rattle.promises.specs.Library.{library}
@@ -56,14 +56,14 @@ module _ (s : State) (m : List ℕ) where
   abbrev x : Seen
   x = library.store.check s m
 
-  quiet : x.number ≢ 0 → x.verdict ≡ Nothing
+  quiet : x.number ≢ 0 → x.verdict ≡ none
   quiet h = (((table 2 tag).check s m).unchanged h).3
 
-  said : (p : Verdict → Type 0) → p Accept → p Tag → ((a : ℕ) → p (Stamp a)) → x.number ≡ 0 → p x.verdict
+  said : (p : Option Verdict → Type 0) → p (some Accept) → p (some Tag) → ((a : ℕ) → p (some (Stamp a))) → x.number ≡ 0 → p x.verdict
   said p a t f e = ⊎_elim (λ v. subst p (sym v) a) (⊎_elim (λ v. subst p (sym v) t) (λ v. subst p (sym v.1) (f v.0))) ((table 2 tag).check_says s m e)
 
   check_number : (x.number ≡ 0) ↔ (verdict_number x.verdict ≡ some 0)
-  check_number = (said (λ (v : Verdict). verdict_number v ≡ some 0) refl refl (λ a. refl), λ e. go x.number refl e)
+  check_number = (said (λ (v : Option Verdict). verdict_number v ≡ some 0) refl refl (λ a. refl), λ e. go x.number refl e)
     where
       go : (n : ℕ) → x.number ≡ n → verdict_number x.verdict ≡ some 0 → x.number ≡ 0
       go zero q e = q
@@ -77,20 +77,20 @@ module _ (s : State) (m : List ℕ) where
   check_verdict = (
     (λ h. ap verdict_accepts (quiet h)),
     λ e z.
-        said (λ (v : Verdict). verdict_accepts v ≡ none → ⊥)
+        said (λ (v : Option Verdict). verdict_accepts v ≡ none → ⊥)
         (λ w. let y : ◌≡◌ {A = ℕ} 0 1 = cc in absurd (omega arith))
         (λ w. let y : ◌≡◌ {A = ℕ} 0 1 = cc in absurd (omega arith))
         (λ a w. let y : ◌≡◌ {A = ℕ} 0 1 = cc in absurd (omega arith)) z e,
   )
 
-check_address : (v : Verdict) (a : ℕ) → (verdict_address v ≡ some a) ↔ (v ≡ Stamp a)
+check_address : (v : Option Verdict) (a : ℕ) → (verdict_address v ≡ some a) ↔ (v ≡ some (Stamp a))
 check_address v a = (go v, ap verdict_address)
   where
-    go : (v : Verdict) → verdict_address v ≡ some a → v ≡ Stamp a
-    go (Stamp b) e = cc
-    go Accept e = let y : ◌≡◌ {A = ℕ} 0 1 = cc in absurd (omega arith)
-    go Tag e = let y : ◌≡◌ {A = ℕ} 0 1 = cc in absurd (omega arith)
-    go Nothing e = let y : ◌≡◌ {A = ℕ} 0 1 = cc in absurd (omega arith)
+    go : (v : Option Verdict) → verdict_address v ≡ some a → v ≡ some (Stamp a)
+    go (some (Stamp b)) e = cc
+    go (some Accept) e = let y : ◌≡◌ {A = ℕ} 0 1 = cc in absurd (omega arith)
+    go (some Tag) e = let y : ◌≡◌ {A = ℕ} 0 1 = cc in absurd (omega arith)
+    go none e = let y : ◌≡◌ {A = ℕ} 0 1 = cc in absurd (omega arith)
 
 -- ---- count and lowest free
 
@@ -100,18 +100,17 @@ count s = count_length s.marks addresses
 
 lowest_number : (s : State) → FirstOf (given 9 (AllInUse s) ∷ []) (free_number (lowest_of s.marks))
 unfolding free_number addresses
-lowest_number s = go (lowest_of s.marks) refl
-  where
-    go : (f : Free) → lowest_of s.marks ≡ f → (AllInUse s × (free_number f ≡ 9)) ⊎ ((AllInUse s → ⊥) × (free_number f ≡ 0))
-    go Full e = inl ((λ a h. used_marks s a ((lowest_full s.marks).0 e a h)), refl)
-    go (At b) e =
-        inr (
-          (λ f.
-              let w = sym e ∙ (lowest_full s.marks).1 (λ a h. marked_used s a (f a h)) in
-              let y : ◌≡◌ {A = ℕ} 0 9 = ap free_number w in
-              absurd (omega arith)),
-          refl,
-        )
+lowest_number s =
+    ⊎_elim (λ e. inl ((λ a h. used_marks s a ((lowest_full s.marks).0 e a h)), ap free_number e))
+    (λ k.
+    inr (
+      (λ f.
+          let w = sym k.1 ∙ (lowest_full s.marks).1 (λ a h. marked_used s a (f a h)) in
+          let y : ◌≡◌ {A = ℕ} 0 9 = ap free_number w in
+          absurd (omega arith)),
+      ap free_number k.1,
+    ))
+    (lowest_told s.marks)
 
 lowest_address : (s : State) (a : ℕ) → (free_address (lowest_of s.marks) ≡ some a) ↔ Lowest s a
 unfolding free_address addresses
@@ -132,9 +131,9 @@ lowest_address s a = (
       }))),
 )
   where
-    at_address : (f : Free) → free_address f ≡ some a → f ≡ At a
-    at_address (At b) e = cc
-    at_address Full e = let y : ◌≡◌ {A = ℕ} 0 1 = cc in absurd (omega arith)
+    at_address : (f : Result ℕ Refusal) → free_address f ≡ some a → f ≡ Ok a
+    at_address (Ok b) e = cc
+    at_address (Err r) e = let y : ◌≡◌ {A = ℕ} 0 1 = cc in absurd (omega arith)
 
 -- ---- digest and HMAC
 

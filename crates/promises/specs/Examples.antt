@@ -1,6 +1,8 @@
 -- 01, "The examples that are proved": all fourteen under one claim, with more of filter records, checks and key serials. Each speaks of what the library's calls give, and holds for all that it leaves open.
 -- Assumes nothing.
-use Rattle.std.specs.Prelude.{◌≡◌, true, false, List, [], ◌∷◌, ◌++◌, ℕ, ◌+◌, ◌-◌, ◌^◌, ◌<◌, length, take, drop, replicate}
+use Rattle.std.specs.Prelude.{◌≡◌, true, false, List, [], ◌∷◌, ◌++◌, ℕ, ◌+◌, ◌-◌, ◌^◌, ◌<◌, length, take, drop, replicate, Ok, Err}
+use Rattle.std.proofs.Math.Option.{some}
+use Rattle.refusal.specs.declared.Refusal.TheVariants.{NoneFree}
 use Rattle.octets.specs.Layout.{number, bytes}
 use Rattle.state.specs.Cells.{Entry, entry}
 use Rattle.state.specs.Multiset.{hash}
@@ -9,7 +11,6 @@ use Rattle.state.specs.Access.{free_number}
 use Rattle.state.specs.Table.{Marked, zero_hash}
 use Rattle.state.specs.declared.Seal.{Seal}
 use Rattle.state.specs.declared.State.{State}
-use Rattle.state.specs.declared.Free.TheVariants.{At, Full}
 use Rattle.state.specs.declared.Verdict.TheVariants.{Stamp}
 use Rattle.hmac.specs.Hmac.{hmac}
 use Rattle.promises.specs.Library.{Library}
@@ -55,21 +56,21 @@ module _ (l : Library) where
 
   -- 12. marks 0 to 63 set: count 64, lowest free 64
   abbrev pub Example12 : Type 0
-  Example12 = (l.store.count (marking (full ∷ replicate 15 0)) ≡ 64) × (l.store.lowest_free (marking (full ∷ replicate 15 0)) ≡ At 64)
+  Example12 = (l.store.count (marking (full ∷ replicate 15 0)) ≡ 64) × (l.store.lowest_free (marking (full ∷ replicate 15 0)) ≡ Ok 64)
 
   -- 13. all set: count 1,024, number 9
   abbrev pub Example13 : Type 0
-  Example13 = (l.store.count (marking (replicate 16 full)) ≡ 1024) × (l.store.lowest_free (marking (replicate 16 full)) ≡ Full) × (free_number Full ≡ 9)
+  Example13 = (l.store.count (marking (replicate 16 full)) ≡ 1024) × (l.store.lowest_free (marking (replicate 16 full)) ≡ Err NoneFree) × (free_number (Err NoneFree) ≡ 9)
 
   -- a fault that is marked: the check names the address that the state has, whatever the store holds
   abbrev pub ExampleMarked : Type 0
-  ExampleMarked = (s : State) (m : List ℕ) → s.closed ≡ false → length m ≡ 30720 → s.fault ≡ true → (l.store.check s m).verdict ≡ Stamp s.first
+  ExampleMarked = (s : State) (m : List ℕ) → s.closed ≡ false → length m ≡ 30720 → s.fault ≡ true → (l.store.check s m).verdict ≡ some (Stamp s.first)
 
   -- address 2 in use at clock 0, and its stamp, bytes 88 and 89, not 0: the check names 2, and in the state the fault and its address are as they were, and it is
   -- closed
   abbrev pub ExampleFound : Type 0
   ExampleFound = (m : List ℕ) → length m ≡ 30720 → 0 < number (take 2 (drop 88 m))
-      → ((l.store.check (marking (4 ∷ replicate 15 0)) m).verdict ≡ Stamp 2) × ((l.store.check (marking (4 ∷ replicate 15 0)) m).state.fault ≡ false)
+      → ((l.store.check (marking (4 ∷ replicate 15 0)) m).verdict ≡ some (Stamp 2)) × ((l.store.check (marking (4 ∷ replicate 15 0)) m).state.fault ≡ false)
       × ((l.store.check (marking (4 ∷ replicate 15 0)) m).state.first ≡ 0) × ((l.store.check (marking (4 ∷ replicate 15 0)) m).state.closed ≡ true)
 
 module _ (tag : Seal → Entry → List ℕ) where

@@ -4,7 +4,7 @@
 -- That a call ends is proved of each function with its contract, and the contract asks nothing of its arguments. Keys, values, messages and the store of a look
 -- are lent shared: their type forbids writing. The numbers are the table's, written out. Assumes nothing.
 use Rattle.std.specs.Prelude.{◌≡◌, List, [], ◌∷◌, ◌⊎◌, ◌↔◌, ◌≢◌, ℕ, ◌<◌, length}
-use Rattle.std.proofs.Math.Option.{none, some}
+use Rattle.std.proofs.Math.Option.{Option, none, some}
 use contract.Lifetimes.{Lfts}
 use denote.Triple.Entry.{Args}
 use denote.Triple.Clauses.{Ended}
@@ -88,7 +88,7 @@ pub record FirstDemand (l : Library) : Type 1 where
   -- a check has a verdict exactly where it is done, and a verdict an address exactly where it is a reject for a stamp
   pub check_number : (s : State) (m : List ℕ) → ((l.store.check s m).number ≡ 0) ↔ (verdict_number (l.store.check s m).verdict ≡ some 0)
   pub check_verdict : (s : State) (m : List ℕ) → ((l.store.check s m).number ≢ 0) ↔ (verdict_accepts (l.store.check s m).verdict ≡ none)
-  pub check_address : (v : Verdict) (a : ℕ) → (verdict_address v ≡ some a) ↔ (v ≡ Stamp a)
+  pub check_address : (v : Option Verdict) (a : ℕ) → (verdict_address v ≡ some a) ↔ (v ≡ some (Stamp a))
   -- count and lowest free: how many addresses are in use; the smallest that is not, and 9 where there is none
   pub count : (s : State) → l.store.count s ≡ length (in_use s.marks)
   pub lowest_number : (s : State) → FirstOf (given 9 (AllInUse s) ∷ []) (free_number (l.store.lowest_free s))

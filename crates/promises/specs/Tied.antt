@@ -10,8 +10,9 @@ use Rattle.refusal.specs.Told.{told}
 use Rattle.filter.specs.Filter.{unpacked}
 use Rattle.lent.specs.Lent.{lies}
 use Rattle.page.specs.Page.{page, whole}
-use Rattle.state.specs.TakePut.{seen}
-use Rattle.state.specs.declared.Verdict.TheVariants.{Nothing}
+use Rattle.refusal.specs.Told.{told}
+use Rattle.state.specs.Start.{started}
+use Rattle.state.specs.TakePut.{moved, checked}
 use Rattle.state.specs.contracts.State.start as Start
 use Rattle.state.proofs.State.start.Reads as StartReads
 use Rattle.store.specs.contracts.add as Add
@@ -50,17 +51,17 @@ module _ (T : Ended) (learnt : (κs : Lfts T.signature.lifetimes) → (a : Args 
   Tells says = (κs : Lfts T.signature.lifetimes) (a : Args T.signature κs) (r : Res T.signature κs) (e : Lasts T κs a) → learnt κs a r (at_exit T κs a e) → says κs a r e
 
 pub record Tied (l : Library) : Type 1 where
-  pub start : Tells Start.ended StartReads.Learnt (λ κs a r e. r ≡ l.store.start a.0.now)
+  pub start : Tells Start.ended StartReads.Learnt (λ κs a r e. started (told r.answer) r.state ≡ l.store.start a.0.now)
   pub add : Tells Add.ended AddReads.Learnt
-      (λ κs a r e. seen r.number Nothing r.state e.1.0 [] ≡ l.store.add a.0 a.1.0.now a.1.1.0 a.1.1.1.0.now)
+      (λ κs a r e. moved r a.0 e.1.0 [] ≡ l.store.add a.0 a.1.0.now a.1.1.0 a.1.1.1.0.now)
   pub load : Tells Load.ended LoadReads.Learnt
-      (λ κs a r e. seen r.number Nothing r.state e.1.0 e.1.1.1.0 ≡ l.store.load a.0 a.1.0.now a.1.1.0 a.1.1.1.0.now)
+      (λ κs a r e. moved r a.0 e.1.0 e.1.1.1.0 ≡ l.store.load a.0 a.1.0.now a.1.1.0 a.1.1.1.0.now)
   pub store : Tells Store.ended StoreReads.Learnt
-      (λ κs a r e. seen r.number Nothing r.state e.1.0 [] ≡ l.store.store a.0 a.1.0.now a.1.1.0 a.1.1.1.0.now)
+      (λ κs a r e. moved r a.0 e.1.0 [] ≡ l.store.store a.0 a.1.0.now a.1.1.0 a.1.1.1.0.now)
   pub remove : Tells Remove.ended RemoveReads.Learnt
-      (λ κs a r e. seen r.number Nothing r.state e.1.0 [] ≡ l.store.remove a.0 a.1.0.now a.1.1.0)
+      (λ κs a r e. moved r a.0 e.1.0 [] ≡ l.store.remove a.0 a.1.0.now a.1.1.0)
   pub check : Tells Check.ended CheckReads.Learnt
-      (λ κs a r e. seen r.number r.verdict r.state e.1.0 [] ≡ l.store.check a.0 a.1.0.now)
+      (λ κs a r e. checked r a.0 e.1.0 ≡ l.store.check a.0 a.1.0.now)
   -- the part that a look gives lies in the lent store itself
   pub look : Tells Look.ended LookReads.Learnt
       (λ κs a r e. (r.now ≡ l.store.look a.0.now a.1.0) × (r.ref_ptr ≡ lies a.0 (l.store.look_from a.0.now a.1.0)))

@@ -1,9 +1,11 @@
 -- An answer is known by the number that it tells, and by what it gives where the call is done. Assumes nothing.
-use Rattle.std.specs.Prelude.{◌≡◌, refl, List, [], ◌∷◌, ℕ, zero, suc, Result, Ok, Err, slice_index_or}
+use mathlib.Core.Path.{sym, ap, ◌∙◌}
+use mathlib.Core.Bool.{true≢false}
+use Rattle.std.specs.Prelude.{◌≡◌, refl, List, [], ◌∷◌, ℕ, zero, suc, Result, Ok, Err, is_err, slice_index_or}
 use Rattle.std.specs.Result.{result_unwrap_or}
 use Rattle.refusal.specs.declared.Refusal.{Refusal}
 use Rattle.refusal.specs.declared.Refusal.TheVariants.{StoreSize, Address, BufferSize, InUse, NotInUse, Ceiling, Closed, KeySize, NoneFree, Bound, RecordSize, SpareBit, Lengths, PastLength, NoMember}
-use Rattle.refusal.specs.Told.{told}
+use Rattle.refusal.specs.Told.{number_of, told}
 
 -- the refusals in the order of their numbers, from 1 on
 abbrev pub table : List Refusal
@@ -31,3 +33,7 @@ told_again (Err SpareBit) x = refl
 told_again (Err Lengths) x = refl
 told_again (Err PastLength) x = refl
 told_again (Err NoMember) x = refl
+
+-- so no refusal has the number of a call that is done
+pub some_number : (e : Refusal) → number_of e ≡ 0 → ⊥
+some_number e z = true≢false (ap is_err (sym (told_again {A = ℕ} (Err e) 0) ∙ ap (λ (n : ℕ). answer_of {A = ℕ} n 0) z))

@@ -1,8 +1,8 @@
 -- The accepted events of a run are its checks that accept, with their takes before them: each call shows it of its own. Assumes nothing.
 use mathlib.Core.Path.{◌≡◌, refl, sym, ap, ◌∙◌}
 use mathlib.Core.List.{List, [], ◌∷◌, ◌++◌, append_assoc}
+use mathlib.Core.Option.{some, some-injective, none-ne-some}
 use Prim.Native.Nat.{ℕ}
-use native.Mathlib.Omega.{arith}
 use Rattle.state.specs.Cells.{Entry}
 use Rattle.state.specs.Start.{start_of}
 use Rattle.state.specs.TakePut.{Event, accepted, Outcome}
@@ -21,12 +21,12 @@ use Rattle.run.proofs.Runs.{CallOf, call_of}
 use Rattle.run.proofs.FromStart.{events_append, done_by, events_none, events_last, run_did}
 
 -- what a check that accepts gives
-pub accepts_gives : (w : ℕ) (tag : Seal → Entry → List ℕ) (s : State) (m : List ℕ) → (outcome_of w tag s m check).seen.verdict ≡ Accept → outcome_of w tag s m check ≡ acceptance w tag s m
+pub accepts_gives : (w : ℕ) (tag : Seal → Entry → List ℕ) (s : State) (m : List ℕ) → (outcome_of w tag s m check).seen.verdict ≡ some Accept → outcome_of w tag s m check ≡ acceptance w tag s m
 unfolding outcome_of check_of acceptance rejection
 accepts_gives w tag s m =
-    by_rows s m (λ (r : Outcome). r.seen.verdict ≡ Accept → r ≡ acceptance w tag s m) (check_rows w s m) [] _
-    (λ e. by_cond (λ (r : Outcome). r.seen.verdict ≡ Accept → r ≡ acceptance w tag s m) (agrees (take_all w tag s m)) (λ k v. refl) (λ k v. reason_rejects (take_all w tag s m) v))
-    (λ n q v. let z : ◌≡◌ {A = ℕ} 0 1 = cc in absurd (omega arith))
+    by_rows s m (λ (r : Outcome). r.seen.verdict ≡ some Accept → r ≡ acceptance w tag s m) (check_rows w s m) [] _
+    (λ e. by_cond (λ (r : Outcome). r.seen.verdict ≡ some Accept → r ≡ acceptance w tag s m) (agrees (take_all w tag s m)) (λ k v. refl) (λ k v. reason_rejects (take_all w tag s m) (some-injective _ _ v)))
+    (λ n q v. absurd (none-ne-some Accept v))
 
 module _ (w : ℕ) (tag : Seal → Entry → List ℕ) (key : List ℕ) where
   -- a check of the run that accepts, what was done up to its verdict being `past`

@@ -17,7 +17,6 @@ use Rattle.state.specs.TakePut.{took, put, seen, outcome, with_marks, next, take
 use Rattle.state.specs.Access.{add_rows, exchange_rows, remove_rows, added, loaded, stored, removed}
 use Rattle.state.specs.declared.Seal.{Seal}
 use Rattle.state.specs.declared.State.{State}
-use Rattle.state.specs.declared.Verdict.TheVariants.{Nothing}
 use Rattle.state.proofs.Cells.{value_length}
 use Rattle.state.proofs.Marks.{used_marked, used_unmarked, length_marked, length_unmarked}
 use Rattle.state.proofs.Ready.{Ready, add_ready, exchange_ready, remove_ready}
@@ -127,7 +126,7 @@ module _ (w : ℕ) (tag : Seal → Entry → List ℕ) (seal : Seal) (s : State)
     exchange_does : (c : Call) (out : List ℕ) → Ready w s m a true → length v ≡ value_size → s.clock ≢ ceiling w
         → ((n : ℕ) (u : List ℕ) → Sets c n u → n ≡ a) → (b.held a ≡ some old → Kept b c a new)
         → ((n : ℕ) (o : List ℕ) → c ≡ load n o → b.held a ≡ some old → (d : Entry) × (b.held n ≡ some d) × (d.value ≡ out))
-        → Does w tag seal s m b c (outcome (seen 0 Nothing (put_entry tag (take_entry tag s old) new) (write_entry w m new) out) (took old ∷ put new ∷ []))
+        → Does w tag seal s m b c (outcome (seen 0 none (put_entry tag (take_entry tag s old) new) (write_entry w m new) out) (took old ∷ put new ∷ []))
     unfolding noted next take_entry put_entry entry_at
     exchange_does c out p l time only here answer =
         let taken : Bag = noted b (took old) in

@@ -3,7 +3,7 @@
 use mathlib.Core.Path.{◌≡◌}
 use mathlib.Core.Bool.{true, false}
 use mathlib.Core.List.{List, [], ◌∷◌, ◌++◌}
-use mathlib.Core.Option.{some}
+use mathlib.Core.Option.{some, none}
 use mathlib.Core.Logic.{◌⊎◌}
 use Prim.Native.Nat.{ℕ, ◌≤◌}
 use lib.ListN.{length}
@@ -14,7 +14,7 @@ use Rattle.state.specs.TakePut.{Event, accepted, Outcome}
 use Rattle.state.specs.Check.{takes}
 use Rattle.state.specs.declared.Seal.{Seal}
 use Rattle.state.specs.declared.State.{State}
-use Rattle.state.specs.declared.Verdict.TheVariants.{Accept, Nothing}
+use Rattle.state.specs.declared.Verdict.TheVariants.{Accept}
 use Rattle.bag.specs.Bag.{Bag, there, follow}
 use Rattle.bag.specs.Law.{Along, Lawful, Right}
 use Rattle.bag.specs.Following.{Follows, Holds, PutFits, Bytes, TakeFits}
@@ -48,14 +48,14 @@ module _ (w : ℕ) (tag : Seal → Entry → List ℕ) (seal : Seal) (s : State)
     pub honest : Room w b → Holds w b m → Right b r.events × Holds w (follow b r.events) r.seen.store
     pub kept : Right b r.events → (a : ℕ) (e : Entry) → (follow b r.events).held a ≡ some e → Kept b c a e
     pub answers : (a : ℕ) (o : List ℕ) → c ≡ load a o → Right b r.events → (d : Entry) × (b.held a ≡ some d) × (d.value ≡ r.seen.out)
-    pub accepts : (p q : List Event) → r.events ≡ p ++ (accepted ∷ q) → (c ≡ check) × (r.seen.verdict ≡ Accept) × (p ≡ takes w s m)
+    pub accepts : (p q : List Event) → r.events ≡ p ++ (accepted ∷ q) → (c ≡ check) × (r.seen.verdict ≡ some Accept) × (p ≡ takes w s m)
 
   -- a call that is refused, or idle
   pub record Still (r : Outcome) : Type 0 where
     pub state : r.seen.state ≡ s
     pub store : r.seen.store ≡ m
     pub events : r.events ≡ []
-    pub verdict : r.seen.verdict ≡ Nothing
+    pub verdict : r.seen.verdict ≡ none
     pub idle : r.seen.number ≡ 0 → touches c ≡ true → ⊥
 
   pub data Did (r : Outcome) : Type 0 where

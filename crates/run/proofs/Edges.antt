@@ -4,17 +4,16 @@ use mathlib.Core.Path.{◌≡◌, refl, sym, ap, ap₂, ◌∙◌}
 use mathlib.Core.Bool.{false, false≢true}
 use mathlib.Core.List.{List, [], ◌∷◌, ◌++◌, append_assoc}
 use mathlib.Core.Logic.{inl, inr}
+use mathlib.Core.Option.{none}
 use Prim.Native.Nat.{ℕ, ◌≤◌}
 use lib.ListN.{length}
 use borrow.Author.Tests.{eq-eqb}
 use Rattle.state.specs.Sizes.{store_size}
 use Rattle.state.specs.Cells.{Entry, entry_at}
-use Rattle.state.specs.Start.{sealed, fresh, no_state, start_of}
+use Rattle.state.specs.Start.{Begun, sealed, fresh, no_state, start_of}
 use Rattle.state.specs.Check.{check_rows}
 use Rattle.state.specs.declared.Seal.{Seal}
 use Rattle.state.specs.declared.State.{State}
-use Rattle.state.specs.declared.Started.{Started}
-use Rattle.state.specs.declared.Verdict.TheVariants.{Nothing}
 use Rattle.state.proofs.Starts.{start_done, start_refused}
 use Rattle.bag.proofs.Lists.{by_last, no_place, last_place, place_stays}
 use Rattle.run.specs.Calls.{Call, load, check, Made, made, after, events}
@@ -72,19 +71,19 @@ module _ (w : ℕ) (tag : Seal → Entry → List ℕ) (key : List ℕ) where
   pub refused_start : (length key ≡ 32 → ⊥) → (run : List Made) → (state_after w tag key run ≡ no_state) × (events_of w tag key run ≡ [])
   unfolding after events
   refused_start n =
-      by_last (λ (run : List Made). (state_after w tag key run ≡ no_state) × (events_of w tag key run ≡ [])) (ap (λ (r : Started). r.state) (start_refused key n), refl)
+      by_last (λ (run : List Made). (state_after w tag key run ≡ no_state) × (events_of w tag key run ≡ [])) (ap (λ (r : Begun). r.state) (start_refused key n), refl)
       (λ run x h.
       let k = refused_still run x h.0 in
       (state_last w tag key run x ∙ k.state ∙ h.0, events_last w tag key run x ∙ ap₂ ◌++◌ h.1 k.events))
 
-  pub refused_silent : (length key ≡ 32 → ⊥) → (run : List Made) (x : Made) → (result w tag key run x).seen.verdict ≡ Nothing
+  pub refused_silent : (length key ≡ 32 → ⊥) → (run : List Made) (x : Made) → (result w tag key run x).seen.verdict ≡ none
   refused_silent n run x = (refused_still run x (refused_start n run).0).verdict
 
   -- a check right after a start accepts, whatever the store holds
   pub first_check : 1 ≤ w → length key ≡ 32 → (m : List ℕ) → length m ≡ store_size w → Accepts w tag key [] m
   unfolding after fresh check_rows
   first_check one h m k =
-      let c : (start_of key).state.closed ≡ false = ap (λ (r : Started). r.state.closed) (start_done key h) in
+      let c : (start_of key).state.closed ≡ false = ap (λ (r : Begun). r.state.closed) (start_done key h) in
       complete_at w one tag key [] m (λ before later x e d l a u. absurd (never before later x e l)) (check_number w tag (start_of key).state m (rw (c, eq-eqb (length m) (store_size w) k)))
     where
       never : (before later : List Made) (x : Made) → made check m ∷ [] ≡ before ++ (x ∷ later) → Latest (Touches w tag key) before → ⊥

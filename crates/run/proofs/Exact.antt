@@ -180,11 +180,11 @@ module _ (w : ℕ) (tag : Seal → Entry → List ℕ) (key : List ℕ) (run : L
     λ k. equal_accepts w tag s m rows (told.put ∙ k.0 ∙ sym told.take) (told.fault.1 k.1),
   )
 
-  stamp_told : (a : ℕ) → ((result w tag key run (made check m)).seen.verdict ≡ Stamp a) ↔ AheadFirstAt since.past period a
+  stamp_told : (a : ℕ) → ((result w tag key run (made check m)).seen.verdict ≡ some (Stamp a)) ↔ AheadFirstAt since.past period a
   unfolding outcome_of
   stamp_told a = let k = says_stamp w tag s m rows a in ((λ v. (told.first a).0 (k.0 v)), λ x. k.1 ((told.first a).1 x))
 
-  tag_told : ((result w tag key run (made check m)).seen.verdict ≡ Tag)
+  tag_told : ((result w tag key run (made check m)).seen.verdict ≡ some Tag)
       ↔ (NoneAhead since.past period × (hash (tag (sealed key)) (put_in period) ≢ hash (tag (sealed key)) (taken_in period)))
   unfolding outcome_of
   tag_told =

@@ -1,7 +1,8 @@
 -- A start has no fault and the address 0, and each call shows that it keeps what is settled of the two; a check names the address of the state after its takes.
 -- Assumes nothing.
-use mathlib.Core.Path.{◌≡◌, refl, sym, ◌∙◌, subst}
+use mathlib.Core.Path.{refl, sym, ◌∙◌, subst}
 use mathlib.Core.List.{List}
+use mathlib.Core.Option.{none-ne-some}
 use Prim.Native.Nat.{ℕ, ◌<◌}
 use native.Mathlib.Omega.{arith}
 use Rattle.state.specs.Sizes.{addresses}
@@ -29,6 +30,6 @@ module _ (w : ℕ) (tag : Seal → Entry → List ℕ) where
   stamp_below key run m a v =
       let s = state_after w tag key run in
       elim (run_did w tag key run (made check m)) [
-        | still n ↦ let z = sym n.verdict ∙ v in let y : ◌≡◌ {A = ℕ} 0 1 = cc in absurd (omega arith)
+        | still n ↦ absurd (none-ne-some _ (sym n.verdict ∙ v))
         | does o y d ↦ subst (λ (n : ℕ). n < addresses) ((says_stamp w tag s m (check_done w tag s m d.number) a).0 v).1 (taken_settled w tag s m (first_address key run)).1
       ]

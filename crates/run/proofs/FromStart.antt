@@ -8,11 +8,10 @@ use lib.Dec.{eqb}
 use lib.ListN.{length}
 use borrow.Author.Tests.{eqb-true, eqb-false}
 use Rattle.state.specs.Cells.{Entry}
-use Rattle.state.specs.Start.{sealed, fresh, no_state, start_of}
+use Rattle.state.specs.Start.{Begun, sealed, fresh, no_state, start_of}
 use Rattle.state.specs.TakePut.{Event, Outcome}
 use Rattle.state.specs.declared.Seal.{Seal}
 use Rattle.state.specs.declared.State.{State}
-use Rattle.state.specs.declared.Started.{Started}
 use Rattle.state.proofs.Starts.{start_done, start_refused}
 use Rattle.state.proofs.Marks.{fresh_unused}
 use Rattle.state.proofs.Multiset.{hash_none}
@@ -31,8 +30,8 @@ pub by_start : (key : List ℕ) (P : State → Type 0) → (length key ≡ 32 �
 by_start key P f g = go (eqb (length key) 32) refl
   where
     go : (b : Bool) → eqb (length key) 32 ≡ b → P (start_of key).state
-    go true e = let h = eqb-true (length key) 32 e in subst (λ (r : Started). P r.state) (sym (start_done key h)) (f h)
-    go false e = let h = eqb-false (length key) 32 e in subst (λ (r : Started). P r.state) (sym (start_refused key h)) (g h)
+    go true e = let h = eqb-true (length key) 32 e in subst (λ (r : Begun). P r.state) (sym (start_done key h)) (f h)
+    go false e = let h = eqb-false (length key) 32 e in subst (λ (r : Begun). P r.state) (sym (start_refused key h)) (g h)
 
 module _ (w : ℕ) (tag : Seal → Entry → List ℕ) where
   after_append : (s : State) (p q : List Made) → after w tag s (p ++ q) ≡ after w tag (after w tag s p) q

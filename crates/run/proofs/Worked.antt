@@ -1,6 +1,7 @@
 -- Four runs worked out, with a tag that is easy to compute: each reply by computation. Assumes nothing.
 use mathlib.Core.Path.{◌≡◌, refl}
 use mathlib.Core.List.{List, [], ◌∷◌}
+use mathlib.Core.Option.{Option, none, some}
 use Prim.Native.Nat.{ℕ, ◌+◌}
 use lib.ListN.{take, replicate, get_or}
 use Rattle.octets.specs.Layout.{total, join, split, number, bytes}
@@ -16,7 +17,7 @@ use Rattle.state.specs.Check.{check_rows, taken, opening, reput, opened, agrees,
 use Rattle.state.specs.declared.Seal.{Seal}
 use Rattle.state.specs.declared.State.{State}
 use Rattle.state.specs.declared.Verdict.{Verdict}
-use Rattle.state.specs.declared.Verdict.TheVariants.{Accept, Stamp, Tag, Nothing}
+use Rattle.state.specs.declared.Verdict.TheVariants.{Accept, Stamp, Tag}
 use Rattle.run.specs.Calls.{Call, add, load, store, check, Made, made, outcome_of}
 
 toy : Seal → Entry → List ℕ
@@ -44,10 +45,10 @@ lend s m (x ∷ xs) = let r = (outcome_of width toy s (x.spoil m) x.call).seen i
 -- what a run replies: the number, the verdict, and the first byte of the out buffer
 record Reply : Type 0 where
   number : ℕ
-  verdict : Verdict
+  verdict : Option Verdict
   out : List ℕ
 
-abbrev reply : ℕ → Verdict → List ℕ → Reply
+abbrev reply : ℕ → Option Verdict → List ℕ → Reply
 reply n v o = record { number = n; verdict = v; out = o }
 
 replies : State → List Made → List Reply
@@ -80,9 +81,9 @@ ahead = line (add 9 (value 0x41)) ∷ line (add 2 (value 0x42)) ∷ spoilt 9 0x4
 found : List Line
 found = line (add 9 (value 0x41)) ∷ line (add 2 (value 0x42)) ∷ spoilt 2 0x42 3 check ∷ []
 
-worked : (session honest ≡ reply 0 Nothing [] ∷ reply 0 Nothing [] ∷ reply 0 Nothing (0x42 ∷ []) ∷ reply 0 Accept [] ∷ reply 0 Nothing (0x42 ∷ []) ∷ reply 0 Accept [] ∷ [])
-    × (session lied ≡ reply 0 Nothing [] ∷ reply 0 Nothing [] ∷ reply 0 Nothing (0x42 ∷ []) ∷ reply 0 Nothing (0x41 ∷ []) ∷ reply 0 Tag [] ∷ reply 7 Nothing (7 ∷ []) ∷ [])
-    × (session ahead ≡ reply 0 Nothing [] ∷ reply 0 Nothing [] ∷ reply 0 Nothing (0x41 ∷ []) ∷ reply 0 Nothing (0x42 ∷ []) ∷ reply 0 (Stamp 9) [] ∷ [])
-    × (session found ≡ reply 0 Nothing [] ∷ reply 0 Nothing [] ∷ reply 0 (Stamp 2) [] ∷ [])
+worked : (session honest ≡ reply 0 none [] ∷ reply 0 none [] ∷ reply 0 none (0x42 ∷ []) ∷ reply 0 (some Accept) [] ∷ reply 0 none (0x42 ∷ []) ∷ reply 0 (some Accept) [] ∷ [])
+    × (session lied ≡ reply 0 none [] ∷ reply 0 none [] ∷ reply 0 none (0x42 ∷ []) ∷ reply 0 none (0x41 ∷ []) ∷ reply 0 (some Tag) [] ∷ reply 7 none (7 ∷ []) ∷ [])
+    × (session ahead ≡ reply 0 none [] ∷ reply 0 none [] ∷ reply 0 none (0x41 ∷ []) ∷ reply 0 none (0x42 ∷ []) ∷ reply 0 (some (Stamp 9)) [] ∷ [])
+    × (session found ≡ reply 0 none [] ∷ reply 0 none [] ∷ reply 0 (some (Stamp 2)) [] ∷ [])
 unfolding honest lied ahead found spoilt session begin lend replies value toy outcome_of total join split number bytes xor key_size addresses value_size cell_size store_size ceiling used marked value_at stamp_at entry_at write_cell write_entry empty_hash with_tag same same_hash fresh start_of with_marks close next take_entry put_entry add_rows exchange_rows call added add_of loaded load_of stored store_of check_rows used_below in_use taken opening reput opened agrees reason takes puts write_all take_all put_all acceptance rejection check_of
 worked = (refl, refl, refl, refl)

@@ -1,13 +1,13 @@
 -- A run: the calls after a start, each with the bytes that it is lent, the earliest first; and what they do.
 -- Over the stamp's width w and the tag. Assumes nothing.
 use Rattle.std.specs.Prelude.{Bool, true, false, List, [], ◌∷◌, ◌++◌, ℕ}
+use Rattle.std.proofs.Math.Option.{none}
 use Rattle.state.specs.Cells.{Entry}
 use Rattle.state.specs.TakePut.{Event, seen, Outcome}
 use Rattle.state.specs.Access.{add_of, load_of, store_of, remove_of}
 use Rattle.state.specs.Check.{check_of}
 use Rattle.state.specs.declared.Seal.{Seal}
 use Rattle.state.specs.declared.State.{State}
-use Rattle.state.specs.declared.Verdict.TheVariants.{Nothing}
 
 -- a call with its arguments, which may be any: an address, and the value given or the out buffer lent
 pub data Call : Type 0 where
@@ -41,7 +41,7 @@ touches lowest = false
 
 -- 01, Look, Count, Lowest free: they change nothing. What they answer is in their contracts, and no part of a run
 abbrev pub idle : State → List ℕ → Outcome
-idle s m = record { seen = seen 0 Nothing s m []; events = [] }
+idle s m = record { seen = seen 0 none s m []; events = [] }
 
 module _ (w : ℕ) (tag : Seal → Entry → List ℕ) where
   -- what a call does; and what it gives, but for look, count and lowest free

@@ -14,6 +14,7 @@
 -- It is stated by places: `run ≡ before ++ (x ∷ later)` says that the call x stands in the run after the calls `before`. Of the tag nothing is asked.
 -- Assumes nothing.
 use Rattle.std.specs.Prelude.{◌≡◌, true, List, [], ◌∷◌, ◌++◌, ◌⊎◌, ◌≢◌, ℕ, ◌≤◌}
+use Rattle.std.proofs.Math.Option.{some}
 use Rattle.state.specs.Marks.{used}
 use Rattle.state.specs.Cells.{Entry, entry_at}
 use Rattle.state.specs.Multiset.{hash}
@@ -95,7 +96,7 @@ module _ (w : ℕ) (tag : Seal → Entry → List ℕ) (key : List ℕ) where
 
   -- a check accepts
   abbrev pub Accepts : List Made → List ℕ → Type 0
-  Accepts before m = (result before (made check m)).seen.verdict ≡ Accept
+  Accepts before m = (result before (made check m)).seen.verdict ≡ some Accept
 
   -- ---- first half
 

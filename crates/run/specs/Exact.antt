@@ -14,6 +14,7 @@
 -- The clock is told by what was done: 0 at the start, a put's stamp after that put, 1 after an accepted check. It is the state's clock.
 -- Of the tag nothing is asked, nor of the stamp's width. Assumes nothing.
 use Rattle.std.specs.Prelude.{◌≡◌, true, false, ◌↔◌, ◌≢◌, ℕ, ◌<◌}
+use Rattle.std.proofs.Math.Option.{some}
 use mathlib.Core.List.{List, ◌∷◌, ◌++◌, foldl}
 use Rattle.state.specs.Cells.{Entry}
 use Rattle.state.specs.Multiset.{hash}
@@ -82,9 +83,9 @@ module _ (w : ℕ) (tag : Seal → Entry → List ℕ) where
   ReasonExact =
       (key : List ℕ) (before : List Made) (m : List ℕ) → Done w tag key before (made check m)
       → (period : List Event) (since : Since (up_to w tag key before m) period)
-      → ((a : ℕ) → ((result w tag key before (made check m)).seen.verdict ≡ Stamp a) ↔ AheadFirstAt since.past period a)
-      × (((result w tag key before (made check m)).seen.verdict ≡ Tag)
+      → ((a : ℕ) → ((result w tag key before (made check m)).seen.verdict ≡ some (Stamp a)) ↔ AheadFirstAt since.past period a)
+      × (((result w tag key before (made check m)).seen.verdict ≡ some Tag)
       ↔ (NoneAhead since.past period × (hash (tag (sealed key)) (put_in period) ≢ hash (tag (sealed key)) (taken_in period))))
 
   abbrev pub StampBelow : Type 0
-  StampBelow = (key : List ℕ) (before : List Made) (m : List ℕ) (a : ℕ) → (result w tag key before (made check m)).seen.verdict ≡ Stamp a → a < 1024
+  StampBelow = (key : List ℕ) (before : List Made) (m : List ℕ) (a : ℕ) → (result w tag key before (made check m)).seen.verdict ≡ some (Stamp a) → a < 1024

@@ -4,6 +4,7 @@ use mathlib.Core.Bool.{Bool, true, false, cond, false≢true}
 use mathlib.Core.List.Memᴰ
 use mathlib.Core.List.{List, [], ◌∷◌, ◌++◌, map, foldl, Memᴰ}
 use mathlib.Core.Logic.{◌⊎◌, inl, inr, ⊎_elim, ◌↔◌, ◌≢◌}
+use mathlib.Core.Option.{some}
 use Prim.Native.Nat.{ℕ, zero, suc, ◌+◌, ◌*◌, ◌%◌, ◌^◌, ◌<◌, ◌≤◌}
 use native.Mathlib.Nat.{zero-div}
 use native.Mathlib.Omega.{arith}
@@ -186,7 +187,7 @@ module _ (w : ℕ) (tag : Seal → Entry → List ℕ) where
             none_ahead (q.entry, subst (Memᴰ q.entry) (sym q.place) (Memᴰ.append_right q.before (Memᴰ.head refl)), q.ahead)
 
     -- the reason of a reject
-    because : agrees (take_all w tag s m) ≡ false → Reason w tag s m (reason (take_all w tag s m))
+    because : agrees (take_all w tag s m) ≡ false → Reason w tag s m (some (reason (take_all w tag s m)))
     unfolding reason
     because e = ⊎_elim
         (λ k. inl ((take_all w tag s m).first, rw k.0, k.1))
@@ -259,7 +260,7 @@ module _ (w : ℕ) (tag : Seal → Entry → List ℕ) where
     rejected = record { seal = refl; put = refl; take = refl; clock = refl; fault = refl; first = refl; closed = refl; marks = refl; store = refl }
 
     abbrev Checked : Seen → Type 0
-    Checked x = ((x.verdict ≡ Accept) × Agrees w tag s m × Accepted w tag s m x) ⊎ (Reason w tag s m x.verdict × ¬ Agrees w tag s m × Rejected s m x)
+    Checked x = ((x.verdict ≡ some Accept) × Agrees w tag s m × Accepted w tag s m x) ⊎ (Reason w tag s m x.verdict × ¬ Agrees w tag s m × Rejected s m x)
 
     check_effect : (check_of w tag s m).seen.number ≡ 0 → Checked (check_of w tag s m).seen
     unfolding check_of acceptance rejection

@@ -3,6 +3,7 @@ use mathlib.Core.Path.{◌≡◌, refl, sym, ap, ap₂, ◌∙◌, subst}
 use mathlib.Core.Bool.{Bool, true, false, cond, not, ◌||◌, ◌&&◌, true≢false, false≢true}
 use mathlib.Core.List.{List, []}
 use mathlib.Core.Logic.{◌↔◌, ◌≢◌}
+use mathlib.Core.Option.{Option, none, some, some-injective}
 use Prim.Native.Nat.{ℕ, zero, suc, ◌≤◌, ◌<◌}
 use native.Mathlib.Omega.{arith}
 use lib.Dec.{ltb}
@@ -18,7 +19,7 @@ use Rattle.state.specs.Check.{check_rows, opening, opened, agrees, reason, take_
 use Rattle.state.specs.declared.Seal.{Seal}
 use Rattle.state.specs.declared.State.{State}
 use Rattle.state.specs.declared.Verdict.{Verdict}
-use Rattle.state.specs.declared.Verdict.TheVariants.{Accept, Stamp, Tag, Nothing}
+use Rattle.state.specs.declared.Verdict.TheVariants.{Accept, Stamp, Tag}
 use Rattle.octets.proofs.Same.{both}
 use Rattle.state.proofs.Multiset.{same_hash_true, equal_same_hash}
 use Rattle.state.proofs.Walks.{put_each_below, put_each_whole}
@@ -72,44 +73,44 @@ module _ (w : ℕ) (tag : Seal → Entry → List ℕ) (s : State) (m : List ℕ
   t = take_all w tag s m
 
   -- what a check that is not refused says, by the state after its takes
-  pub verdict_is : first (check_rows w s m) ≡ 0 → (check_of w tag s m).seen.verdict ≡ cond (agrees t) Accept (reason t)
+  pub verdict_is : first (check_rows w s m) ≡ 0 → (check_of w tag s m).seen.verdict ≡ some (cond (agrees t) Accept (reason t))
   unfolding check_of call acceptance rejection
-  verdict_is e = ap (λ (n : ℕ). (done n (cond (agrees t) (acceptance w tag s m) (rejection w tag s m)) (outcome (seen n Nothing s m []) [])).seen.verdict) e ∙ go (agrees t)
+  verdict_is e = ap (λ (n : ℕ). (done n (cond (agrees t) (acceptance w tag s m) (rejection w tag s m)) (outcome (seen n none s m []) [])).seen.verdict) e ∙ go (agrees t)
     where
-      go : (b : Bool) → (cond b (acceptance w tag s m) (rejection w tag s m)).seen.verdict ≡ cond b Accept (reason t)
+      go : (b : Bool) → (cond b (acceptance w tag s m) (rejection w tag s m)).seen.verdict ≡ some (cond b Accept (reason t))
       go true = refl
       go false = refl
 
   module _ (e : first (check_rows w s m) ≡ 0) where
-    abbrev verdict : Verdict
+    abbrev verdict : Option Verdict
     verdict = (check_of w tag s m).seen.verdict
 
     -- accept exactly where the hashes are equal and no fault is marked
-    pub accepts_tells : verdict ≡ Accept → (t.put ≡ t.take) × (t.fault ≡ false)
+    pub accepts_tells : verdict ≡ some Accept → (t.put ≡ t.take) × (t.fault ≡ false)
     accepts_tells v = go (agrees t) refl (sym (verdict_is e) ∙ v)
       where
-        go : (b : Bool) → agrees t ≡ b → cond b Accept (reason t) ≡ Accept → (t.put ≡ t.take) × (t.fault ≡ false)
+        go : (b : Bool) → agrees t ≡ b → some (cond b Accept (reason t)) ≡ some Accept → (t.put ≡ t.take) × (t.fault ≡ false)
         go true h k = agrees_tells t h
-        go false h k = reason_rejects t k
+        go false h k = reason_rejects t (some-injective _ _ k)
 
-    pub equal_accepts : t.put ≡ t.take → t.fault ≡ false → verdict ≡ Accept
+    pub equal_accepts : t.put ≡ t.take → t.fault ≡ false → verdict ≡ some Accept
     equal_accepts h f = verdict_is e ∙ rw (equal_agrees t h f)
 
     -- for a stamp exactly where a fault is marked, and with the first one's address; and for the tags exactly where none is and the hashes differ
-    pub says_stamp : (a : ℕ) → (verdict ≡ Stamp a) ↔ ((t.fault ≡ true) × (t.first ≡ a))
+    pub says_stamp : (a : ℕ) → (verdict ≡ some (Stamp a)) ↔ ((t.fault ≡ true) × (t.first ≡ a))
     unfolding reason
     says_stamp a = ((λ v. tells (agrees t) refl t.fault refl (sym (verdict_is e) ∙ v)), λ k. verdict_is e ∙ rw (unset (agrees t) (λ h. false≢true (sym (agrees_tells t h).1 ∙ k.0)), k.0, k.1))
       where
-        tells : (b : Bool) → agrees t ≡ b → (c : Bool) → t.fault ≡ c → cond b Accept (cond c (Stamp t.first) Tag) ≡ Stamp a → (t.fault ≡ true) × (t.first ≡ a)
+        tells : (b : Bool) → agrees t ≡ b → (c : Bool) → t.fault ≡ c → some (cond b Accept (cond c (Stamp t.first) Tag)) ≡ some (Stamp a) → (t.fault ≡ true) × (t.first ≡ a)
         tells true h c f k = let y : ◌≡◌ {A = ℕ} 0 1 = cc in absurd (omega arith)
         tells false h true f k = (f, cc)
         tells false h false f k = let y : ◌≡◌ {A = ℕ} 0 1 = cc in absurd (omega arith)
 
-    pub says_tag : (verdict ≡ Tag) ↔ ((t.fault ≡ false) × (t.put ≢ t.take))
+    pub says_tag : (verdict ≡ some Tag) ↔ ((t.fault ≡ false) × (t.put ≢ t.take))
     unfolding reason
     says_tag = ((λ v. tells (agrees t) refl t.fault refl (sym (verdict_is e) ∙ v)), λ k. verdict_is e ∙ rw (unset (agrees t) (λ h. k.1 (agrees_tells t h).0), k.0))
       where
-        tells : (b : Bool) → agrees t ≡ b → (c : Bool) → t.fault ≡ c → cond b Accept (cond c (Stamp t.first) Tag) ≡ Tag → (t.fault ≡ false) × (t.put ≢ t.take)
+        tells : (b : Bool) → agrees t ≡ b → (c : Bool) → t.fault ≡ c → some (cond b Accept (cond c (Stamp t.first) Tag)) ≡ some Tag → (t.fault ≡ false) × (t.put ≢ t.take)
         tells true h c f k = let y : ◌≡◌ {A = ℕ} 0 1 = cc in absurd (omega arith)
         tells false h true f k = let y : ◌≡◌ {A = ℕ} 0 1 = cc in absurd (omega arith)
         tells false h false f k = (f, λ q. true≢false (sym (equal_agrees t q f) ∙ h))

@@ -4,6 +4,7 @@ use mathlib.Core.Path.{◌≡◌, refl}
 use mathlib.Core.Bool.{Bool, true, false, not}
 use mathlib.Core.List.{List, [], ◌∷◌}
 use mathlib.Core.Logic.{◌≢◌}
+use mathlib.Core.Option.{none}
 use Prim.Native.Nat.{ℕ, zero, suc, ◌*◌, ◌<◌}
 use native.Mathlib.Omega.{arith}
 use lib.Dec.{T}
@@ -17,25 +18,24 @@ use Rattle.state.specs.TakePut.{seen, Outcome, outcome}
 use Rattle.state.specs.Access.{closed_row, store_row, address_row, buffer_row, clock_row, add_rows, exchange_rows, remove_rows, look_rows, call, look_of, look_from}
 use Rattle.state.specs.Check.{check_rows}
 use Rattle.state.specs.declared.State.{State}
-use Rattle.state.specs.declared.Verdict.TheVariants.{Nothing}
 
 pub call_done : (rows : List Row) (s : State) (m o : List ℕ) (x : Outcome) → first rows ≡ 0 → call rows s m o x ≡ x
 unfolding call
-call_done rows s m o x e = done_zero (first rows) x (outcome (seen (first rows) Nothing s m o) []) e
+call_done rows s m o x e = done_zero (first rows) x (outcome (seen (first rows) none s m o) []) e
 
 pub call_refused : (rows : List Row) (s : State) (m o : List ℕ) (x : Outcome) → (first rows ≡ 0 → ⊥)
-    → call rows s m o x ≡ outcome (seen (first rows) Nothing s m o) []
+    → call rows s m o x ≡ outcome (seen (first rows) none s m o) []
 unfolding call
-call_refused rows s m o x h = done_other (first rows) x (outcome (seen (first rows) Nothing s m o) []) h
+call_refused rows s m o x h = done_other (first rows) x (outcome (seen (first rows) none s m o) []) h
 
 -- what holds of a call that is done, and of one that is refused by its number, holds of it
 module _ (s : State) (m : List ℕ) where
   pub by_rows : (P : Outcome → Type 0) (rows : List Row) (o : List ℕ) (x : Outcome) → (first rows ≡ 0 → P x)
-      → ((n : ℕ) → first rows ≡ suc n → P (outcome (seen (suc n) Nothing s m o) [])) → P (call rows s m o x)
+      → ((n : ℕ) → first rows ≡ suc n → P (outcome (seen (suc n) none s m o) [])) → P (call rows s m o x)
   unfolding call
   by_rows P rows o x f g = go (first rows) f g
     where
-      go : (n : ℕ) → (n ≡ 0 → P x) → ((k : ℕ) → n ≡ suc k → P (outcome (seen (suc k) Nothing s m o) [])) → P (done n x (outcome (seen n Nothing s m o) []))
+      go : (n : ℕ) → (n ≡ 0 → P x) → ((k : ℕ) → n ≡ suc k → P (outcome (seen (suc k) none s m o) [])) → P (done n x (outcome (seen n none s m o) []))
       go zero f g = f refl
       go (suc n) f g = g n refl
 

@@ -3,6 +3,7 @@ use mathlib.Core.Path.{◌≡◌, refl, sym, ap, ◌∙◌, subst}
 use mathlib.Core.Bool.{Bool, true, false, cond}
 use mathlib.Core.List.{List, [], ◌∷◌}
 use mathlib.Core.Logic.{◌⊎◌, inl, inr, ◌≢◌, ⊎_elim}
+use mathlib.Core.Option.{Option, none, some}
 use Prim.Native.Nat.{ℕ, ◌+◌, ◌-◌, ◌*◌, ◌/◌, ◌%◌, ◌^◌, ◌<◌}
 use native.Mathlib.Omega.{arith}
 use lib.Dec.{ltb}
@@ -25,7 +26,7 @@ use Rattle.state.specs.Table.{Marked, Answers, Table}
 use Rattle.state.specs.declared.Seal.{Seal}
 use Rattle.state.specs.declared.State.{State}
 use Rattle.state.specs.declared.Verdict.{Verdict}
-use Rattle.state.specs.declared.Verdict.TheVariants.{Accept, Stamp, Tag, Nothing}
+use Rattle.state.specs.declared.Verdict.TheVariants.{Accept, Stamp, Tag}
 use Rattle.state.proofs.Cells.{value_length}
 use Rattle.state.proofs.Ready.{by_rows, done_rows, look_ready, look_done, look_refused}
 use Rattle.state.proofs.Guards.{verdict_is}
@@ -51,7 +52,7 @@ module _ (rows : List Row) (cases : List Case) (s : State) (m o : List ℕ) (x :
   answers t z = record {
     number = let f = first_of rows cases t in by_rows s m (λ (r : Outcome). FirstOf cases r.seen.number) rows o x (λ e. subst (FirstOf cases) (e ∙ sym z) f) (λ n q. subst (FirstOf cases) q f);
     unchanged =
-        by_rows s m (λ (r : Outcome). r.seen.number ≢ 0 → (r.seen.state ≡ s) × (r.seen.store ≡ m) × (r.seen.out ≡ o) × (r.seen.verdict ≡ Nothing)) rows o x
+        by_rows s m (λ (r : Outcome). r.seen.number ≢ 0 → (r.seen.state ≡ s) × (r.seen.store ≡ m) × (r.seen.out ≡ o) × (r.seen.verdict ≡ none)) rows o x
         (λ e h. absurd (h z)) (λ n q h. (refl, refl, refl, refl));
   }
 
@@ -67,8 +68,8 @@ module _ (w : ℕ) (tag : Seal → Entry → List ℕ) where
       (either_zero (agrees (take_all w tag s m)) (acceptance w tag s m) (rejection w tag s m) refl refl)
 
   -- a verdict of a check that is done
-  abbrev Says : Verdict → Type 0
-  Says v = (v ≡ Accept) ⊎ ((v ≡ Tag) ⊎ ((a : ℕ) × (v ≡ Stamp a)))
+  abbrev Says : Option Verdict → Type 0
+  Says v = (v ≡ some Accept) ⊎ ((v ≡ some Tag) ⊎ ((a : ℕ) × (v ≡ some (Stamp a))))
 
   check_says : (s : State) (m : List ℕ) → (check_of w tag s m).seen.number ≡ 0 → Says (check_of w tag s m).seen.verdict
   unfolding check_of reason
@@ -77,7 +78,7 @@ module _ (w : ℕ) (tag : Seal → Entry → List ℕ) where
       t : State
       t = take_all w tag s m
 
-      said : (b c : Bool) → Says (cond b Accept (cond c (Stamp t.first) Tag))
+      said : (b c : Bool) → Says (some (cond b Accept (cond c (Stamp t.first) Tag)))
       said true c = inl refl
       said false true = inr (inr (t.first, refl))
       said false false = inr (inl refl)

@@ -1,17 +1,17 @@
 -- 01, "The trusted state and the moves": add, load, store and remove; look; lowest free. Each call's refusals are its rows of the numbers' table, in the table's order.
 -- Over the stamp's width w and the tag. Assumes nothing.
-use Rattle.std.specs.Prelude.{not, List, [], ◌∷◌, ℕ, ◌*◌, eqb, ltb, length, replicate}
+use Rattle.std.specs.Prelude.{not, List, [], ◌∷◌, ℕ, ◌*◌, eqb, ltb, length, replicate, Result, Ok, Err}
 use Rattle.std.proofs.Math.Option.{Option, none, some}
 use Rattle.refusal.specs.Refusal.{Row, when, first, done}
+use Rattle.refusal.specs.Told.{told}
+use Rattle.refusal.specs.declared.Refusal.{Refusal}
+use Rattle.refusal.specs.declared.Refusal.TheVariants.{NoneFree}
 use Rattle.state.specs.Sizes.{addresses, value_size, cell_size, store_size, ceiling}
 use Rattle.state.specs.Marks.{used, marked, unmarked, lowest_free}
 use Rattle.state.specs.Cells.{Entry, value_at, entry_at, write_cell, write_entry}
 use Rattle.state.specs.TakePut.{took, put, seen, Outcome, outcome, with_marks, next, take_entry, put_entry}
 use Rattle.state.specs.declared.Seal.{Seal}
 use Rattle.state.specs.declared.State.{State}
-use Rattle.state.specs.declared.Verdict.TheVariants.{Nothing}
-use Rattle.state.specs.declared.Free.{Free}
-use Rattle.state.specs.declared.Free.TheVariants.{At, Full}
 
 -- the rows
 abbrev pub closed_row : State → Row
@@ -51,14 +51,14 @@ look_rows w m a = store_row w m ∷ address_row a ∷ []
 
 -- a call of these rows: what it gives where it is done; where it is refused nothing has changed
 unfoldable pub call : List Row → State → List ℕ → List ℕ → Outcome → Outcome
-call rows s m o x = done (first rows) x (outcome (seen (first rows) Nothing s m o) [])
+call rows s m o x = done (first rows) x (outcome (seen (first rows) none s m o) [])
 
 module _ (w : ℕ) (tag : Seal → Entry → List ℕ) where
   -- Add: a put, and the mark set
   unfoldable pub added : State → List ℕ → ℕ → List ℕ → Outcome
   added s m a v =
       let e = next s a v in
-      outcome (seen 0 Nothing (with_marks (put_entry tag s e) (marked s.marks a)) (write_entry w m e) []) (put e ∷ [])
+      outcome (seen 0 none (with_marks (put_entry tag s e) (marked s.marks a)) (write_entry w m e) []) (put e ∷ [])
 
   unfoldable pub add_of : State → List ℕ → ℕ → List ℕ → Outcome
   add_of s m a v = call (add_rows w s m a v) s m [] (added s m a v)
@@ -69,7 +69,7 @@ module _ (w : ℕ) (tag : Seal → Entry → List ℕ) where
       let v = value_at w m a in
       let t = take_entry tag s (entry_at w m a) in
       let e = next t a v in
-      outcome (seen 0 Nothing (put_entry tag t e) (write_entry w m e) v) (took (entry_at w m a) ∷ put e ∷ [])
+      outcome (seen 0 none (put_entry tag t e) (write_entry w m e) v) (took (entry_at w m a) ∷ put e ∷ [])
 
   unfoldable pub load_of : State → List ℕ → ℕ → List ℕ → Outcome
   load_of s m a o = call (exchange_rows w s m a o) s m o (loaded s m a)
@@ -79,7 +79,7 @@ module _ (w : ℕ) (tag : Seal → Entry → List ℕ) where
   stored s m a v =
       let t = take_entry tag s (entry_at w m a) in
       let e = next t a v in
-      outcome (seen 0 Nothing (put_entry tag t e) (write_entry w m e) []) (took (entry_at w m a) ∷ put e ∷ [])
+      outcome (seen 0 none (put_entry tag t e) (write_entry w m e) []) (took (entry_at w m a) ∷ put e ∷ [])
 
   unfoldable pub store_of : State → List ℕ → ℕ → List ℕ → Outcome
   store_of s m a v = call (exchange_rows w s m a v) s m [] (stored s m a v)
@@ -88,7 +88,7 @@ module _ (w : ℕ) (tag : Seal → Entry → List ℕ) where
   unfoldable pub removed : State → List ℕ → ℕ → Outcome
   removed s m a =
       let t = take_entry tag s (entry_at w m a) in
-      outcome (seen 0 Nothing (with_marks t (unmarked s.marks a)) (write_cell w m a (replicate value_size 0) 0) []) (took (entry_at w m a) ∷ [])
+      outcome (seen 0 none (with_marks t (unmarked s.marks a)) (write_cell w m a (replicate value_size 0) 0) []) (took (entry_at w m a) ∷ [])
 
   unfoldable pub remove_of : State → List ℕ → ℕ → Outcome
   remove_of s m a = call (remove_rows w s m a) s m [] (removed s m a)
@@ -105,13 +105,12 @@ look_from w m a = done (first (look_rows w m a)) (cell_size w * a) 0
 abbrev pub lowest_rows : List ℕ → List Row
 lowest_rows ws = when 9 (eqb (lowest_free ws) addresses) ∷ []
 
-unfoldable pub lowest_of : List ℕ → Free
-lowest_of ws = done (first (lowest_rows ws)) (At (lowest_free ws)) Full
+unfoldable pub lowest_of : List ℕ → Result ℕ Refusal
+lowest_of ws = done (first (lowest_rows ws)) (Ok (lowest_free ws)) (Err NoneFree)
 
-unfoldable pub free_number : Free → ℕ
-free_number (At a) = 0
-free_number Full = 9
+unfoldable pub free_number : Result ℕ Refusal → ℕ
+free_number r = told r
 
-unfoldable pub free_address : Free → Option ℕ
-free_address (At a) = some a
-free_address Full = none
+unfoldable pub free_address : Result ℕ Refusal → Option ℕ
+free_address (Ok a) = some a
+free_address (Err r) = none

@@ -1,20 +1,19 @@
 -- The calls of the store as functions of their arguments: what a caller has after each. The claims speak of such functions; `calls` are those of the definitions.
 -- Assumes nothing.
-use Rattle.std.specs.Prelude.{List, ℕ}
+use Rattle.std.specs.Prelude.{List, ℕ, Result}
+use Rattle.refusal.specs.declared.Refusal.{Refusal}
 use Rattle.state.specs.Marks.{count_of}
 use Rattle.state.specs.Cells.{Entry}
-use Rattle.state.specs.Start.{start_of}
+use Rattle.state.specs.Start.{Begun, start_of}
 use Rattle.state.specs.TakePut.{Seen}
 use Rattle.state.specs.Access.{add_of, load_of, store_of, remove_of, look_of, look_from, lowest_of}
 use Rattle.state.specs.Check.{check_of}
 use Rattle.state.specs.declared.Seal.{Seal}
 use Rattle.state.specs.declared.State.{State}
-use Rattle.state.specs.declared.Started.{Started}
-use Rattle.state.specs.declared.Free.{Free}
 
 -- of a state, the bytes lent as the store, an address, and the value given or the out buffer lent
 pub record Calls : Type 0 where
-  pub start : List ℕ → Started
+  pub start : List ℕ → Begun
   pub add : State → List ℕ → ℕ → List ℕ → Seen
   pub load : State → List ℕ → ℕ → List ℕ → Seen
   pub store : State → List ℕ → ℕ → List ℕ → Seen
@@ -24,7 +23,7 @@ pub record Calls : Type 0 where
   pub look : List ℕ → ℕ → List ℕ
   pub look_from : List ℕ → ℕ → ℕ
   pub count : State → ℕ
-  pub lowest_free : State → Free
+  pub lowest_free : State → Result ℕ Refusal
 
 -- at a stamp's width and a tag
 abbrev pub calls : ℕ → (Seal → Entry → List ℕ) → Calls

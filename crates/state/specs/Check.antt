@@ -12,27 +12,25 @@ use Rattle.state.specs.Access.{closed_row, store_row, call}
 use Rattle.state.specs.declared.Seal.{Seal}
 use Rattle.state.specs.declared.State.{State}
 use Rattle.state.specs.declared.Verdict.{Verdict}
-use Rattle.state.specs.declared.Verdict.TheVariants.{Accept, Stamp, Tag, Nothing}
+use Rattle.state.specs.declared.Verdict.TheVariants.{Accept, Stamp, Tag}
 
 -- the number of each verdict: a check that is refused says nothing, and its number stands beside it
-abbrev pub verdict_number : Verdict → Option ℕ
-verdict_number Accept = some 0
-verdict_number (Stamp a) = some 0
-verdict_number Tag = some 0
-verdict_number Nothing = none
+abbrev pub verdict_number : Option Verdict → Option ℕ
+verdict_number (some v) = some 0
+verdict_number none = none
 
 -- and what it carries: accept, reject, or no verdict; and the address that a reject names
-abbrev pub verdict_accepts : Verdict → Option Bool
-verdict_accepts Accept = some true
-verdict_accepts (Stamp a) = some false
-verdict_accepts Tag = some false
-verdict_accepts Nothing = none
+abbrev pub verdict_accepts : Option Verdict → Option Bool
+verdict_accepts (some Accept) = some true
+verdict_accepts (some (Stamp a)) = some false
+verdict_accepts (some Tag) = some false
+verdict_accepts none = none
 
-abbrev pub verdict_address : Verdict → Option ℕ
-verdict_address Accept = none
-verdict_address (Stamp a) = some a
-verdict_address Tag = none
-verdict_address Nothing = none
+abbrev pub verdict_address : Option Verdict → Option ℕ
+verdict_address (some Accept) = none
+verdict_address (some (Stamp a)) = some a
+verdict_address (some Tag) = none
+verdict_address none = none
 
 unfoldable pub check_rows : ℕ → State → List ℕ → List Row
 check_rows w s m = closed_row s ∷ store_row w m ∷ []
@@ -95,11 +93,11 @@ module _ (w : ℕ) (tag : Seal → Entry → List ℕ) where
 
   -- accepted: between the takes, which end a period, and the puts, which begin the next
   unfoldable pub acceptance : State → List ℕ → Outcome
-  acceptance s m = outcome (seen 0 Accept (put_all s m) (write_all w s m) []) (takes w s m ++ (accepted ∷ puts w s m))
+  acceptance s m = outcome (seen 0 (some Accept) (put_all s m) (write_all w s m) []) (takes w s m ++ (accepted ∷ puts w s m))
 
   -- rejected, for a reason that counts the check's own takes: the state given, closed, and the store as it was
   unfoldable pub rejection : State → List ℕ → Outcome
-  rejection s m = outcome (seen 0 (reason (take_all s m)) (close s) m []) (takes w s m)
+  rejection s m = outcome (seen 0 (some (reason (take_all s m))) (close s) m []) (takes w s m)
 
   unfoldable pub check_of : State → List ℕ → Outcome
   check_of s m = call (check_rows w s m) s m [] (cond (agrees (take_all s m)) (acceptance s m) (rejection s m))

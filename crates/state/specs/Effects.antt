@@ -3,6 +3,7 @@
 -- Over the stamp's width w: a cell has 28 + w bytes. Assumes nothing.
 use Rattle.std.specs.Prelude.{◌≡◌, true, false, ◌⊎◌, ◌↔◌, ◌≢◌, ℕ, ◌+◌, ◌*◌, ◌%◌, ◌^◌, ◌<◌, ◌≤◌, length, take, drop, replicate}
 use mathlib.Core.List.{List, [], ◌∷◌, ◌++◌, map, foldl, Memᴰ}
+use Rattle.std.proofs.Math.Option.{Option, some}
 use Rattle.octets.specs.Layout.{number, bytes}
 use Rattle.octets.specs.Places.{xor}
 use Rattle.state.specs.Marks.{in_use}
@@ -127,10 +128,10 @@ module _ (w : ℕ) where
       pub unused : (a : ℕ) → a < 1024 → ¬ Marked s a → cell_in x.store a ≡ cell_in m a
 
     -- why a check rejects: for a stamp that was ahead, its own takes counted after those of the calls, with the address; and else for hashes that differ
-    abbrev pub Reason : State → List ℕ → Verdict → Type 0
+    abbrev pub Reason : State → List ℕ → Option Verdict → Type 0
     Reason s m v =
-        ((a : ℕ) × (v ≡ Stamp a) × FoundAt s (taken_of s m) a)
-        ⊎ ((v ≡ Tag) × NoneFound s (taken_of s m) × (s.put ≢ joined s.seal s.take (taken_of s m)))
+        ((a : ℕ) × (v ≡ some (Stamp a)) × FoundAt s (taken_of s m) a)
+        ⊎ ((v ≡ some Tag) × NoneFound s (taken_of s m) × (s.put ≢ joined s.seal s.take (taken_of s m)))
 
     pub record Effects (c : Calls) : Type 0 where
       -- Add: a put at the raised clock, and the mark
@@ -155,7 +156,7 @@ module _ (w : ℕ) where
       pub store_marks : (s : State) (m : List ℕ) (a : ℕ) (v : List ℕ) → (c.store s m a v).state.marks ≡ s.marks
       -- Check: accept exactly where its condition holds, and else reject, for the one reason that there is
       pub check : (s : State) (m : List ℕ) → Typed s → (c.check s m).number ≡ 0
-          → (((c.check s m).verdict ≡ Accept) × Agrees s m × Accepted s m (c.check s m))
+          → (((c.check s m).verdict ≡ some Accept) × Agrees s m × Accepted s m (c.check s m))
           ⊎ (Reason s m (c.check s m).verdict × ¬ Agrees s m × Rejected s m (c.check s m))
       -- the list of addresses in use has each of them, and no other, lowest first
       pub each_in_use : (s : State) → Typed s → Rising (in_use s.marks) × ((a : ℕ) → Memᴰ a (in_use s.marks) ↔ ((a < 1024) × Marked s a))

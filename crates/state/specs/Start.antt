@@ -6,7 +6,6 @@ use Rattle.state.specs.Sizes.{key_size, words}
 use Rattle.state.specs.Multiset.{empty_hash}
 use Rattle.state.specs.declared.Seal.{Seal}
 use Rattle.state.specs.declared.State.{State}
-use Rattle.state.specs.declared.Started.{Started}
 
 -- what keys the tags of a state that is started under a key
 unfoldable pub sealed : List ℕ → Seal
@@ -22,11 +21,16 @@ unfoldable pub no_state : State
 unfolding fresh key_size
 no_state = fresh (record { key = replicate key_size 0 }) true
 
-abbrev pub started : ℕ → State → Started
+-- what the caller has after start: its number and the state
+pub record Begun : Type 0 where
+  pub number : ℕ
+  pub state : State
+
+abbrev pub started : ℕ → State → Begun
 started n s = record { number = n; state = s }
 
 abbrev pub start_rows : List ℕ → List Row
 start_rows k = when 8 (not (eqb (length k) key_size)) ∷ []
 
-unfoldable pub start_of : List ℕ → Started
+unfoldable pub start_of : List ℕ → Begun
 start_of k = started (first (start_rows k)) (done (first (start_rows k)) (fresh (sealed k) false) no_state)

@@ -2,12 +2,13 @@
 -- nothing. No row of a definition is cited. The numbers that go with the stamp's width are `cell` and `size`, of a cell and of a store, and `ceiling`, the last
 -- clock. Assumes nothing.
 use Rattle.std.specs.Prelude.{◌≡◌, true, false, List, [], ◌∷◌, ◌⊎◌, ◌≢◌, ℕ, ◌*◌, ◌/◌, ◌%◌, ◌^◌, ◌<◌, length, get_or, take, drop, replicate}
+use Rattle.std.proofs.Math.Option.{none, some}
 use Rattle.refusal.specs.Cases.{Case, given, FirstOf}
 use Rattle.state.specs.TakePut.{Seen}
 use Rattle.state.specs.Calls.{Calls}
 use Rattle.state.specs.declared.Hash.{Hash}
 use Rattle.state.specs.declared.State.{State}
-use Rattle.state.specs.declared.Verdict.TheVariants.{Accept, Stamp, Tag, Nothing}
+use Rattle.state.specs.declared.Verdict.TheVariants.{Accept, Stamp, Tag}
 
 -- address a is in use: bit a % 64, from the lowest, of word a / 64
 abbrev pub Marked : State → ℕ → Type 0
@@ -16,7 +17,7 @@ Marked s a = (get_or s.marks (a / 64) 0 / 2 ^ (a % 64)) % 2 ≡ 1
 -- what a call of the state s with the bytes m and the out buffer o gives: a number by its conditions, and where that is not 0 all is as it was
 pub record Answers (cases : List Case) (x : Seen) (s : State) (m o : List ℕ) : Type 0 where
   pub number : FirstOf cases x.number
-  pub unchanged : x.number ≢ 0 → (x.state ≡ s) × (x.store ≡ m) × (x.out ≡ o) × (x.verdict ≡ Nothing)
+  pub unchanged : x.number ≢ 0 → (x.state ≡ s) × (x.store ≡ m) × (x.out ≡ o) × (x.verdict ≡ none)
 
 -- the hash of nothing
 abbrev pub zero_hash : Hash
@@ -42,7 +43,7 @@ pub record Table (cell size ceiling : ℕ) (c : Calls) : Type 0 where
   pub check : (s : State) (m : List ℕ) → Answers (given 7 (s.closed ≡ true) ∷ given 1 (length m ≢ size) ∷ []) (c.check s m) s m []
   -- a check that is done says accept, or reject for a stamp at an address or for the tags
   pub check_says : (s : State) (m : List ℕ) → (c.check s m).number ≡ 0
-      → ((c.check s m).verdict ≡ Accept) ⊎ (((c.check s m).verdict ≡ Tag) ⊎ ((a : ℕ) × ((c.check s m).verdict ≡ Stamp a)))
+      → ((c.check s m).verdict ≡ some Accept) ⊎ (((c.check s m).verdict ≡ some Tag) ⊎ ((a : ℕ) × ((c.check s m).verdict ≡ some (Stamp a))))
   -- a look gives the cell's value where it lies, and no bytes at the store's first where the store or the address is refused
   pub look : (m : List ℕ) (a : ℕ) → length m ≡ size → a < 1024 → (c.look m a ≡ take 28 (drop (cell * a) m)) × (c.look_from m a ≡ cell * a)
   pub look_size : (m : List ℕ) (a : ℕ) → length m ≡ size → a < 1024 → length (c.look m a) ≡ 28

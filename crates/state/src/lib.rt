@@ -3,7 +3,10 @@
 #![tactic(auto)]
 
 ghost use Rattle.std.specs.Prelude.{◌≡◌};
-ghost use Rattle.state.specs.Start.{start_of, fresh};
+ghost use Rattle.refusal.specs.Told.{told};
+ghost use Rattle.state.specs.Start.{started, start_of, fresh};
+
+use refusal::Refusal;
 
 // The hash of a multiset: the exclusive-or of its tags, and how many elements it has, modulo 2^32.
 #[derive(Clone, Copy)]
@@ -31,43 +34,26 @@ pub struct State {
     pub marks: [u64; State::WORDS],
 }
 
-// What start gives.
+// What start gives. The state stands beside the answer, since a refused start gives one too: closed, and zeros everywhere else.
 #[derive(Clone, Copy)]
 pub struct Started {
-    pub number: u8,
+    pub answer: Result<(), Refusal>,
     pub state: State,
 }
 
-// What add, load, store and remove give.
-#[derive(Clone, Copy)]
-pub struct Moved {
-    pub number: u8,
-    pub state: State,
-}
-
-// What a check says: it accepts; or it rejects, for a stamp that was ahead of the clock, first taken at this address, or else for its tags. A check that is
-// refused says nothing.
+// What a check says: it accepts; or it rejects, for a stamp that was ahead of the clock, first taken at this address, or else for its tags.
 #[derive(Clone, Copy)]
 pub enum Verdict {
     Accept,
     Stamp(u16),
     Tag,
-    Nothing,
 }
 
-// What check gives.
+// What a check that is not refused gives.
 #[derive(Clone, Copy)]
 pub struct Checked {
-    pub number: u8,
     pub verdict: Verdict,
     pub state: State,
-}
-
-// What lowest free gives: an address, or that there is none.
-#[derive(Clone, Copy)]
-pub enum Free {
-    At(usize),
-    Full,
 }
 
 impl State {
@@ -91,24 +77,22 @@ impl State {
 
     // An open state under a key of 32 bytes; for any other key number 8, and a closed state of zeros.
     pub fn start(key: &[u8]) -> Started
-        ensures { result ≡ start_of key.now }
+        ensures { started (told result.answer) result.state ≡ start_of key.now }
     {
-        if key.len() == State::KEY {
-            let mut k = [0u8; State::KEY];
-            lent::copy(&mut k, key);
-            return Started {
-                number: 0,
-                state: empty(Seal { key: k }, false),
-            };
-        }
-        Started {
-            number: 8,
-            state: empty(
-                Seal {
-                    key: [0u8; State::KEY],
-                },
-                true,
-            ),
+        match <[u8; State::KEY]>::try_from(key) {
+            Ok(key) => Started {
+                answer: Ok(()),
+                state: empty(Seal { key }, false),
+            },
+            Err(_) => Started {
+                answer: Err(Refusal::KeySize),
+                state: empty(
+                    Seal {
+                        key: [0u8; State::KEY],
+                    },
+                    true,
+                ),
+            },
         }
     }
 }

@@ -3,6 +3,7 @@ use borrow.Author.Tests.{lt-ltb, le-ltb, not-true, not-false}
 use mathlib.Core.Path.{◌≡◌, sym, ap, ap₂, ◌∙◌}
 use mathlib.Core.Bool.{Bool, true, false, cond, not, ◌||◌, ◌&&◌, or-false, and-false}
 use mathlib.Core.List.{List}
+use mathlib.Core.Option.{none}
 use Prim.Native.Nat.{ℕ, ◌≤◌, ◌<◌}
 use lib.Dec.{ltb}
 use Rattle.state.specs.Cells.{Entry, entry, value_at, stamp_at, entry_at}
@@ -11,7 +12,6 @@ use Rattle.state.specs.TakePut.{seen, take_entry, put_entry}
 use Rattle.state.specs.declared.State.{State}
 use Rattle.state.specs.declared.Hash.{Hash}
 use Rattle.state.specs.declared.Seal.{Seal}
-use Rattle.state.specs.declared.Verdict.TheVariants.{Nothing}
 
 -- the state with another take hash and fault, and with another put hash and clock
 abbrev pub with_take : State → Hash → Bool → ℕ → State
@@ -57,5 +57,5 @@ unfolding put_entry
 put_is tag s e p q = ap (λ (h : Hash). with_put s h e.stamp) (p ∙ ap (with_tag s.put) q)
 
 -- what is seen of a call that is done
-pub same_seen : {s t : State} {m n o q : List ℕ} → s ≡ t → m ≡ n → o ≡ q → seen 0 Nothing s m o ≡ seen 0 Nothing t n q
-same_seen {t = t} {n = n} {o = o} e f g = ap₂ (λ s m. seen 0 Nothing s m o) e f ∙ ap (seen 0 Nothing t n) g
+pub same_seen : {s t : State} {m n o q : List ℕ} → s ≡ t → m ≡ n → o ≡ q → seen 0 none s m o ≡ seen 0 none t n q
+same_seen {t = t} {n = n} {o = o} e f g = ap₂ (λ s m. seen 0 none s m o) e f ∙ ap (seen 0 none t n) g

@@ -1,10 +1,10 @@
 // Take and put, and what each call does that is not refused.
 ghost use Rattle.std.specs.Prelude.{◌≡◌, [], ◌<◌, length};
+ghost use Rattle.std.proofs.Math.Option.{none};
 ghost use Rattle.state.specs.Sizes.{width, addresses, value_size, store_size, ceiling};
 ghost use Rattle.state.specs.Cells.{entry, entry_at, write_entry};
 ghost use Rattle.state.specs.TakePut.{seen, next, take_entry, put_entry};
 ghost use Rattle.state.specs.Access.{added, loaded, stored, removed};
-ghost use Rattle.state.specs.declared.Verdict.TheVariants.{Nothing};
 ghost use Rattle.entries.specs.Tag.{tag};
 
 use state::State;
@@ -68,7 +68,7 @@ fn put(s: State, store: &mut [u8], a: usize, value: [u8; State::VALUE]) -> State
 // Add: a put, and the mark set.
 pub fn added(s: State, store: &mut [u8], a: usize, value: &[u8]) -> State
     requires { (length store.old ≡ store_size width) × (a < addresses) × (length value.now ≡ value_size) × (s.clock < ceiling width) }
-    ensures { seen 0 Nothing result store.new [] ≡ (added width tag s store.old a value.now).seen }
+    ensures { seen 0 none result store.new [] ≡ (added width tag s store.old a value.now).seen }
 {
     let mut v = [0u8; State::VALUE];
     lent::copy(&mut v, value);
@@ -82,7 +82,7 @@ pub fn added(s: State, store: &mut [u8], a: usize, value: &[u8]) -> State
 // Load: a take, and a put of the value read, which is handed out.
 pub fn loaded(s: State, store: &mut [u8], a: usize, out: &mut [u8]) -> State
     requires { (length store.old ≡ store_size width) × (a < addresses) × (length out.old ≡ value_size) × (s.clock < ceiling width) }
-    ensures { seen 0 Nothing result store.new out.new ≡ (loaded width tag s store.old a).seen }
+    ensures { seen 0 none result store.new out.new ≡ (loaded width tag s store.old a).seen }
 {
     let v = crate::cells::value_at(store, a);
     let t = take(s, store, a);
@@ -94,7 +94,7 @@ pub fn loaded(s: State, store: &mut [u8], a: usize, out: &mut [u8]) -> State
 // Store: a take, and a put of another value.
 pub fn stored(s: State, store: &mut [u8], a: usize, value: &[u8]) -> State
     requires { (length store.old ≡ store_size width) × (a < addresses) × (length value.now ≡ value_size) × (s.clock < ceiling width) }
-    ensures { seen 0 Nothing result store.new [] ≡ (stored width tag s store.old a value.now).seen }
+    ensures { seen 0 none result store.new [] ≡ (stored width tag s store.old a value.now).seen }
 {
     let mut v = [0u8; State::VALUE];
     lent::copy(&mut v, value);
@@ -105,7 +105,7 @@ pub fn stored(s: State, store: &mut [u8], a: usize, value: &[u8]) -> State
 // Remove: a take, zeros in the cell, the mark cleared.
 pub fn removed(s: State, store: &mut [u8], a: usize) -> State
     requires { (length store.old ≡ store_size width) × (a < addresses) }
-    ensures { seen 0 Nothing result store.new [] ≡ (removed width tag s store.old a).seen }
+    ensures { seen 0 none result store.new [] ≡ (removed width tag s store.old a).seen }
 {
     let mut r = take(s, store, a);
     crate::cells::write(store, a, [0u8; State::VALUE], 0);

@@ -1,24 +1,23 @@
 -- `store::look` meets its contract: the part lent is the value's, in place, or has no bytes. Assumes nothing.
 use mathlib.Core.Path.{sym, ap, ◌∙◌}
 use Rattle.state.specs.Sizes.{width}
+use Rattle.refusal.proofs.Again.{some_number}
 use Rattle.lent.specs.Lent.{lies}
 use Rattle.state.proofs.Ready.{look_ready, look_done, look_refused}
 use Rattle.store.proofs.look.Goals as goal
 
 pub value_part-requires : goal.value_part-requires
-value_part-requires c =
-    let x = c.args in
-    look_ready width x.store.now x.a (sym c.look.ensures ∙ c.if-look-eq0.true)
+value_part-requires c = look_ready width c.args.store.now c.args.a (sym c.in-Ok.ensures)
 
-pub returns-then-look-eq0 : goal.returns-then-look-eq0
-returns-then-look-eq0 c =
+pub returns-in-Ok : goal.returns-in-Ok
+returns-in-Ok c =
     let x = c.args in
     let p = c.value_part.ensures in
-    let q = look_done width x.store.now x.a (sym c.look.ensures ∙ c.if-look-eq0.true) in
+    let q = look_done width x.store.now x.a (sym c.in-Ok.ensures) in
     (p.0 ∙ sym q.0, p.1 ∙ sym (ap (lies x.store) q.1))
 
-pub returns : goal.returns
-returns c =
+pub returns-in-Err : goal.returns-in-Err
+returns-in-Err c =
     let x = c.args in
-    let q = look_refused width x.store.now x.a (λ e. c.if-look-eq0.false (c.look.ensures ∙ e)) in
+    let q = look_refused width x.store.now x.a (λ e. some_number _ (c.in-Err.ensures ∙ e)) in
     (sym q.0, sym (ap (lies x.store) q.1))

@@ -1,25 +1,24 @@
--- `store::store` meets its contract: by its number. Assumes nothing.
+-- `store::store` meets its contract: by whether it is refused. Assumes nothing.
 use borrow.Author.Rules.{rules}
 use mathlib.Core.Path.{sym, ◌∙◌}
 use Prim.Native.Nat.{◌^◌, ◌<◌}
 use Rattle.state.specs.Sizes.{width}
 use Rattle.state.specs.Access.{store_of}
 use Rattle.state.proofs.Ready.{exchange_ready}
-use Rattle.store.proofs.Answers.{clock_below, done_seen, refused_seen}
+use Rattle.store.proofs.Answers.{clock_below, done_seen, refused_moved}
 use Rattle.store.proofs.store.Goals as goal
 
-pub stored-state-requires : goal.stored-state-requires
-stored-state-requires c =
+pub returns-in_err-exchange : goal.returns-in_err-exchange
+unfolding store_of
+returns-in_err-exchange c = refused_moved _ _ _ _ _ _ _ c.in_err-exchange.ensures c.from_residual.ensures
+
+pub stored-requires : goal.stored-requires
+stored-requires c =
     let x = c.args in
     let f : x.s.clock < 256 ^ width = search rules in
-    let r = exchange_ready width x.s x.store.now x.a x.value.now (sym c.exchange-number.ensures ∙ c.if-number-eq0.true) in
+    let r = exchange_ready width x.s x.store.now x.a x.value.now (sym c.in_ok-exchange.ensures) in
     (r.0.size, r.0.below, r.1.size, clock_below x.s.clock f r.1.time)
-
-pub returns-then-number-eq0 : goal.returns-then-number-eq0
-unfolding store_of
-returns-then-number-eq0 c =
-    done_seen _ _ _ _ _ c.exchange-number.ensures c.if-number-eq0.true c.stored-state.ensures
 
 pub returns : goal.returns
 unfolding store_of
-returns c = refused_seen _ _ _ _ _ c.exchange-number.ensures c.if-number-eq0.false
+returns c = c.stored.ensures ∙ done_seen _ _ _ _ _ c.in_ok-exchange.ensures

@@ -1,21 +1,17 @@
--- `State::start` meets its contract: row 8 is tested, and the key is copied whole. Assumes nothing.
-use borrow.Author.Rules.{rules}
-use mathlib.Core.Path.{◌≡◌, ap, sym, ◌∙◌}
+-- `State::start` meets its contract: row 8 is tested, and the key is the whole of what is lent. Assumes nothing.
+use mathlib.Core.Path.{ap, sym, ◌∙◌}
 use mathlib.Core.Bool.{false}
-use lib.ListN.{length, replicate}
-use Rattle.state.specs.Start.{sealed, fresh, no_state, started}
 use Rattle.state.specs.Sizes.{key_size}
+use Rattle.state.specs.Start.{sealed, fresh, no_state, started}
 use Rattle.state.proofs.Starts.{start_done, start_refused}
-use Rattle.lent.proofs.Copied.{copied_all}
 use Rattle.state.proofs.State.start.Goals as goal
 
-pub returns-then-key-eq-KEY : goal.returns-then-key-eq-KEY
+pub returns-in-Ok : goal.returns-in-Ok
 unfolding sealed
-returns-then-key-eq-KEY c =
-    let k = c.args.key.now in
-    let l : length k ≡ 32 = search rules in
-    ap (started 0) (c.empty.ensures ∙ ap (λ b. fresh (sealed b) false) (c.copy.ensures ∙ copied_all (replicate 32 0) k (sym l))) ∙ sym (start_done k l)
+returns-in-Ok c =
+    let key = c.in-Ok.ensures.1 in
+    ap (started 0) (c.empty.ensures ∙ ap (λ k. fresh (sealed k) false) key.same) ∙ sym (start_done c.args.key.now key.long)
 
-pub returns : goal.returns
+pub returns-in-Err : goal.returns-in-Err
 unfolding no_state key_size
-returns c = ap (started 8) c.empty-2.ensures ∙ sym (start_refused _ c.if-key-eq-KEY.false)
+returns-in-Err c = ap (started 8) c.empty-in-Err.ensures ∙ sym (start_refused _ c.in-Err.ensures.1)
