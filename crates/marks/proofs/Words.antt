@@ -4,12 +4,12 @@ use mathlib.Core.Bool.{Bool, true, false, cond, not}
 use mathlib.Core.List.{List}
 use mathlib.Core.Logic.{◌⊎◌, inl, inr, ⊎_elim}
 use Prim.Native.Nat.{ℕ, zero, suc, ◌+◌, ◌-◌, ◌*◌, ◌/◌, ◌%◌, ◌^◌, ◌≤◌, ◌<◌}
-use native.Mathlib.Nat.{pow-suc, mod-lt, mod-eq_of_lt, mod-one, div-one, zero-div, div-eq_of_lt, lt_of_lt_of_le}
+use native.Mathlib.Nat.{pow-suc, mod-lt, mod-eq_of_lt, mod-one, div-one, div-eq_of_lt, lt_of_lt_of_le}
 use native.Mathlib.Omega.{arith}
 use lib.Count.{ones, ones_cat, count_trailing_zeros, under}
 use borrow.Author.Tests.{ltb-true, ltb-false}
 use lib.Dec.{eqb, ltb, lit<}
-use lib.ListN.{length, get_or, get_or-eq_default}
+use lib.ListN.{get_or}
 use lib.Pow.{pow_pos, pow_mono, mod-pow-add, shr-shr, shl_exact}
 use Rattle.octets.specs.Places.{tabulate}
 use Rattle.octets.proofs.Places.{tabulate_get_d}
@@ -22,11 +22,6 @@ used_digit ws q b h =
     let e : (q * 64 + b) / 64 ≡ q = omega arith in
     let f : (q * 64 + b) % 64 ≡ b = omega arith in
     rw (e, f)
-
--- past the last word no mark is set
-pub used_past : (ws : List ℕ) (a : ℕ) → length ws ≤ a / 64 → used ws a ≡ false
-unfolding used
-used_past ws a h = rw (get_or-eq_default ws 0 h, zero-div (2 ^ (a % 64)))
 
 -- 1 shifted within a word
 pub one_shifted : (b : ℕ) → b < 64 → 1 * 2 ^ b % 18446744073709551616 ≡ 2 ^ b

@@ -1,47 +1,51 @@
 // The marks of addresses in use: sixteen 64-bit words by value. The mark of address a is bit a % 64, from the least significant, of word a / 64.
 #![tactic(auto)]
 
-ghost use Rattle.std.specs.Prelude.{◌≡◌, ◌*◌, ◌≤◌};
+ghost use Rattle.std.specs.Prelude.{◌≡◌, ◌*◌, ◌/◌, ◌≤◌, get_or, set};
 ghost use Rattle.state.specs.Marks.{used, marked, unmarked, count_of, lowest_free};
 ghost use Rattle.marks.specs.Next.{next_used};
 
 use state::State;
 use std::array;
 
+// The word that has the mark of a; past the last address there is none, and 0 stands for it.
+fn word_of(marks: &[u64; State::WORDS], a: usize) -> u64
+    ensures { result ≡ get_or marks.now (a / 64) 0 }
+{
+    marks.get(a / 64).copied().unwrap_or(0)
+}
+
+// The marks with another word for the one that has the mark of a.
+fn with_word(mut marks: [u64; State::WORDS], a: usize, word: u64) -> [u64; State::WORDS]
+    ensures { result ≡ set marks (a / 64) word }
+{
+    let q = a / 64;
+    if q < State::WORDS {
+        marks[q] = word;
+    }
+    marks
+}
+
 // Is the address in use; no address past the last is.
+#[tactic(auto, unfolding(state::specs::Marks::used))]
 pub fn used(marks: [u64; State::WORDS], a: usize) -> bool
     ensures { result ≡ used marks a }
 {
-    let q = a / 64;
-    if q < State::WORDS {
-        return (marks[q] >> (a % 64)) % 2 == 1;
-    }
-    false
+    (word_of(&marks, a) >> (a % 64)) % 2 == 1
 }
 
-// The marks with that of a set; past the last address there is none to set. (This and the next are two: one function of the change would have to say in its
-// contract what a closure did to the word, and be called with an or and an and.)
+// The marks with that of a set; past the last address there is none to set.
 pub fn with_mark(marks: [u64; State::WORDS], a: usize) -> [u64; State::WORDS]
     ensures { result ≡ marked marks a }
 {
-    let q = a / 64;
-    let mut m = marks;
-    if q < State::WORDS {
-        m[q] |= 1 << (a % 64);
-    }
-    m
+    with_word(marks, a, word_of(&marks, a) | 1 << (a % 64))
 }
 
 // The marks with that of a cleared.
 pub fn without_mark(marks: [u64; State::WORDS], a: usize) -> [u64; State::WORDS]
     ensures { result ≡ unmarked marks a }
 {
-    let q = a / 64;
-    let mut m = marks;
-    if q < State::WORDS {
-        m[q] &= !(1 << (a % 64));
-    }
-    m
+    with_word(marks, a, word_of(&marks, a) & !(1 << (a % 64)))
 }
 
 // How many addresses are in use: the ones of every word.
