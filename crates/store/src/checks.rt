@@ -1,39 +1,12 @@
 // The walks of a check: over words of marks, which say at what addresses.
-ghost use Rattle.std.specs.Prelude.{◌≡◌, ◌+◌, ◌-◌, ◌<◌, ◌≤◌, length, MatchOption};
-ghost use Rattle.std.specs.Iterator.{at_most};
-ghost use Rattle.state.specs.Sizes.{width, addresses, store_size};
+// They stay `while` loops: an iterator of these addresses would have a public `size_hint`, of which std's contract admits more than one outcome, and each public
+// function here admits one (docs/TIGHTNESS.md); and a range with a filter would test all 1,024 addresses where few are in use.
+ghost use Rattle.std.specs.Prelude.{◌≡◌, length};
+ghost use Rattle.state.specs.Sizes.{width, store_size};
 ghost use Rattle.state.specs.Check.{take_each, put_each, write_each};
 ghost use Rattle.entries.specs.Tag.{tag};
-ghost use Rattle.marks.specs.Next.{next_used};
 
 use state::State;
-
-// The marked addresses, lowest first.
-#[derive(Clone, Copy)]
-struct Marked {
-    marks: [u64; State::WORDS],
-    from: usize,
-}
-
-impl Iterator for Marked {
-    type Item = usize;
-
-    ghost can_next = { λ at. at.from ≤ addresses };
-
-    ghost next_gives = { λ at found then. MatchOption found (next_used at.marks at.from ≡ addresses) (λ a. (a ≡ next_used at.marks at.from) × (a < addresses) × (then.from ≡ a + 1) × (then.marks ≡ at.marks)) };
-
-    ghost remaining = { λ at. at_most (addresses - at.from) };
-
-    #[tactic(auto, using(crate::proofs::Loops::next_from, crate::proofs::Loops::next_to), unfolding(state::specs::Sizes::addresses))]
-    fn next(&mut self) -> Option<usize> {
-        let a = marks::next_used(self.marks, self.from);
-        if a == State::ADDRESSES {
-            return None;
-        }
-        self.from = a + 1;
-        Some(a)
-    }
-}
 
 // Every marked address is taken, lowest first.
 #[tactic(auto, unfolding(state::specs::Sizes::addresses))]
@@ -42,8 +15,10 @@ pub fn take_each(s: State, m: [u64; State::WORDS], store: &[u8]) -> State
     ensures { result ≡ take_each width tag m s store.now }
 {
     let mut r = s;
-    for a in (Marked { marks: m, from: 0 }) {
+    let mut a = marks::next_used(m, 0);
+    while a < State::ADDRESSES {
         r = crate::access::take(r, store, a);
+        a = marks::next_used(m, a + 1);
     }
     r
 }
@@ -56,9 +31,11 @@ pub fn put_each(s: State, m: [u64; State::WORDS], store: &mut [u8]) -> State
         × (store.new ≡ write_each width m store.old) }
 {
     let mut r = s;
-    for a in (Marked { marks: m, from: 0 }) {
+    let mut a = marks::next_used(m, 0);
+    while a < State::ADDRESSES {
         let v = crate::cells::value_at(store, a);
         r = crate::access::put_entry(r, store, a, v, 1);
+        a = marks::next_used(m, a + 1);
     }
     r
 }

@@ -1,27 +1,43 @@
--- `store::checks::put_each` meets its contract: the marked addresses that were passed are put again. Assumes nothing.
-use mathlib.Core.Path.{refl, sym, ap, ◌∙◌}
+-- `store::checks::put_each` meets its contract: at a marked address those below it are put again. Assumes nothing.
+use mathlib.Core.Path.{◌≡◌, sym, ap, ◌∙◌}
+use Prim.Native.Nat.{◌+◌}
 use native.Mathlib.Omega.{arith}
-use Rattle.marks.specs.Next.{next_used}
 use Rattle.state.specs.Sizes.{addresses, width}
-use Rattle.state.proofs.Walks.{put_each_below, put_below}
+use Rattle.state.proofs.Walks.{put_each_below, put_below, put_each_whole, write_each_whole}
 use Rattle.entries.specs.Tag.{tag}
-use Rattle.store.proofs.Loops.{put_turn, put_end}
+use Rattle.store.proofs.Loops.{next, put_begin, put_turn, put_length}
 use Rattle.store.proofs.checks.put_each.Goals as goal
 
 pub loop-a-init : goal.loop-a-init
-unfolding addresses put_each_below put_below
-loop-a-init c = rw c.into_iter-a-iterator.ensures.into_iter_gives (omega arith, refl, c.requires, refl, refl)
+unfolding addresses
+loop-a-init c =
+    let n = next c.args.m 0 (omega arith) c.next_used-a.ensures in
+    let p = put_begin width tag c.args.m c.args.s c.args.store.now n in
+    (n.to, n.here, c.requires, p.0, p.1)
+
+pub loop-a-smaller : goal.loop-a-smaller
+unfolding addresses
+loop-a-smaller c =
+    omega (arith, (next c.args.m (c.loop-a.a + 1) (omega arith) c.next_used-a-in-loop-a.ensures).from)
 
 pub loop-a-preserved : goal.loop-a-preserved
+unfolding addresses
 loop-a-preserved c =
-    let x = c.args in
-    let i = c.loop-a.invariant in
-    let n = c.in-Some.ensures.steps in
-    let t = put_turn width tag x.m x.s x.store.now i.0 (n.0 ∙ ap (λ ws. next_used ws c.loop-a.a-iterator.from) i.1) n.1 c.requires (i.3, i.4) c.value_at-v.ensures c.put_entry-r.ensures in
-    (omega (arith, n.1, n.2), n.3 ∙ i.1, t.0, rw n.2 t.1.0, rw n.2 t.1.1)
+    let l = c.loop-a in
+    let ws = c.args.m in
+    let s = c.args.s in
+    let m = c.args.store.now in
+    let n = next ws (l.a + 1) (omega arith) c.next_used-a-in-loop-a.ensures in
+    let p = put_turn width tag ws s m l.a (omega arith) c.requires (l.invariant.1 (omega arith)) n (l.invariant.3, l.invariant.4) c.value_at-v.ensures c.put_entry-r.ensures in
+    (n.to, n.here, put_length width tag ws s m n.to c.requires p, p.0, p.1)
 
 pub returns : goal.returns
+unfolding addresses
 returns c =
+    let l = c.loop-a in
     let x = c.args in
-    let i = c.loop-a.invariant in
-    put_end width tag x.m x.s x.store.now i.0 (ap (λ ws. next_used ws c.loop-a.a-iterator.from) (sym i.1) ∙ c.in-None.ensures.steps) (i.3, i.4)
+    let m = x.store.now in
+    let e : l.a ≡ addresses = omega arith in (
+      l.invariant.3 ∙ ap (put_each_below width tag x.m x.s m) e ∙ sym (put_each_whole width tag x.m x.s m),
+      l.invariant.4 ∙ ap (put_below width x.m m) e ∙ sym (write_each_whole width x.m m),
+    )

@@ -1,27 +1,37 @@
--- `store::checks::take_each` meets its contract: the marked addresses that were passed are taken. Assumes nothing.
-use mathlib.Core.Path.{refl, sym, ap, ◌∙◌}
+-- `store::checks::take_each` meets its contract: at a marked address those below it are taken. Assumes nothing.
+use mathlib.Core.Path.{◌≡◌, sym, ap, ◌∙◌}
+use Prim.Native.Nat.{◌+◌}
 use native.Mathlib.Omega.{arith}
-use Rattle.marks.specs.Next.{next_used}
 use Rattle.state.specs.Sizes.{addresses, width}
-use Rattle.state.proofs.Walks.{take_each_below}
+use Rattle.state.proofs.Walks.{take_each_below, take_each_whole}
 use Rattle.entries.specs.Tag.{tag}
-use Rattle.store.proofs.Loops.{take_turn, take_end}
+use Rattle.store.proofs.Loops.{next, take_begin, take_turn}
 use Rattle.store.proofs.checks.take_each.Goals as goal
 
 pub loop-a-init : goal.loop-a-init
-unfolding addresses take_each_below
-loop-a-init c = rw c.into_iter-a-iterator.ensures.into_iter_gives (omega arith, refl, refl)
+unfolding addresses
+loop-a-init c =
+    let x = c.args in
+    let n = next x.m 0 (omega arith) c.next_used-a.ensures in
+    (n.to, n.here, take_begin width tag x.m x.s x.store.now n)
+
+pub loop-a-smaller : goal.loop-a-smaller
+unfolding addresses
+loop-a-smaller c =
+    omega (arith, (next c.args.m (c.loop-a.a + 1) (omega arith) c.next_used-a-in-loop-a.ensures).from)
 
 pub loop-a-preserved : goal.loop-a-preserved
+unfolding addresses
 loop-a-preserved c =
     let x = c.args in
-    let i = c.loop-a.invariant in
-    let n = c.in-Some.ensures.steps in
-    let t = take_turn width tag x.m x.s x.store.now i.0 (n.0 ∙ ap (λ ws. next_used ws c.loop-a.a-iterator.from) i.1) n.1 i.2 c.take-r.ensures in
-    (omega (arith, n.1, n.2), n.3 ∙ i.1, rw n.2 t)
+    let l = c.loop-a in
+    let n = next x.m (l.a + 1) (omega arith) c.next_used-a-in-loop-a.ensures in
+    (n.to, n.here, take_turn width tag x.m x.s x.store.now l.a (l.invariant.1 (omega arith)) n l.invariant.2 c.take-r.ensures)
 
 pub returns : goal.returns
+unfolding addresses
 returns c =
+    let l = c.loop-a in
     let x = c.args in
-    let i = c.loop-a.invariant in
-    take_end width tag x.m x.s x.store.now i.0 (ap (λ ws. next_used ws c.loop-a.a-iterator.from) (sym i.1) ∙ c.in-None.ensures.steps) i.2
+    let e : l.a ≡ addresses = omega arith in
+    l.invariant.2 ∙ ap (take_each_below width tag x.m x.s x.store.now) e ∙ sym (take_each_whole width tag x.m x.s x.store.now)
