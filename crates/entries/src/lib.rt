@@ -1,4 +1,5 @@
 // An element of the multisets as bytes: its cell, written and read in a store, its message, and its tag.
+// Address, value and stamp are no struct: an address is any usize at a store, and two bytes in a message.
 #![tactic(auto)]
 
 ghost use Rattle.std.specs.Prelude.{◌≡◌, cond, [], ◌+◌, ◌*◌};
@@ -22,13 +23,11 @@ pub fn cell(value: [u8; State::VALUE], stamp: u16) -> [u8; State::CELL]
 }
 
 // Is this a store, with a cell of the address?
+#[tactic(auto, unfolding(crate::specs::Place::has_cell, state::specs::Sizes::addresses, state::specs::Sizes::value_size, state::specs::Sizes::cell_size, state::specs::Sizes::store_size))]
 fn has_cell(store: &[u8], a: usize) -> bool
     ensures { result ≡ has_cell width store.now a }
 {
-    if store.len() == State::STORE {
-        return a < State::ADDRESSES;
-    }
-    false
+    store.len() == State::STORE && a < State::ADDRESSES
 }
 
 // The part of a store that is an address's value; no bytes where it has no such cell.
@@ -89,6 +88,5 @@ pub fn message(a: u16, value: [u8; State::VALUE], stamp: u16) -> [u8; MESSAGE]
 pub fn tag(seal: Seal, a: u16, value: [u8; State::VALUE], stamp: u16) -> [u8; State::TAG]
     ensures { result ≡ tag_of width seal (entry a value stamp) }
 {
-    let key = seal.key;
-    hmac::tag(key, &message(a, value, stamp))
+    hmac::tag(seal.key, &message(a, value, stamp))
 }

@@ -1,5 +1,5 @@
 // How a period of the trusted state ends: whether its hashes agree, and why a check rejects; the state of a new period, and the state closed.
-#![tactic(auto)]
+#![tactic(auto, unfolding(state::specs::Check::opened, state::specs::Check::agrees, state::specs::Check::reason, state::specs::TakePut::close, state::specs::Multiset::empty_hash))]
 
 ghost use Rattle.std.specs.Prelude.{◌≡◌};
 ghost use Rattle.state.specs.TakePut.{close};
@@ -11,9 +11,7 @@ use state::{Hash, State, Verdict};
 pub fn agrees(s: State) -> bool
     ensures { result ≡ agrees s }
 {
-    let p = s.put;
-    let t = s.take;
-    !s.fault && multiset::same(p, t)
+    !s.fault && multiset::same(s.put, s.take)
 }
 
 // Why a check rejects, by the state after its takes: the first stamp that was ahead of the clock, if there was one, and else the tags.
@@ -34,18 +32,17 @@ pub fn opened(s: State) -> State
         tag: [0u8; State::TAG],
         number: 0,
     };
-    let mut r = s;
-    r.put = none;
-    r.take = none;
-    r.clock = 1;
-    r
+    State {
+        put: none,
+        take: none,
+        clock: 1,
+        ..s
+    }
 }
 
 // The state, closed.
 pub fn close(s: State) -> State
     ensures { result ≡ close s }
 {
-    let mut r = s;
-    r.closed = true;
-    r
+    State { closed: true, ..s }
 }

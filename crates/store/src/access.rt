@@ -1,4 +1,5 @@
-// Take and put, and what each call does that is not refused.
+// Take and put, and what each call does that is not refused: its rows have been tested, and what they found is required here. A type for it, as an array of the
+// store's size, would be made by one more test, whose other branch would refuse what no row refuses.
 ghost use Rattle.std.specs.Prelude.{◌≡◌, [], ◌<◌, length};
 ghost use Rattle.std.proofs.Math.Option.{none};
 ghost use Rattle.state.specs.Sizes.{width, addresses, value_size, store_size, ceiling};
@@ -17,11 +18,8 @@ pub fn take(s: State, store: &[u8], a: usize) -> State
 {
     let value = crate::cells::value_at(store, a);
     let stamp = crate::cells::stamp_at(store, a);
-    let seal = s.seal;
-    let old = s.take;
-    let h = multiset::with_tag(old, entries::tag(seal, a as u16, value, stamp));
-    let mut r = s;
-    r.take = h;
+    let h = multiset::with_tag(s.take, entries::tag(s.seal, a as u16, value, stamp));
+    let mut r = State { take: h, ..s };
     if s.clock < stamp {
         if !s.fault {
             r.fault = true;
@@ -45,13 +43,12 @@ pub fn put_entry(
         × (store.new ≡ write_entry width store.old (entry a value stamp)) }
 {
     crate::cells::write(store, a, value, stamp);
-    let seal = s.seal;
-    let old = s.put;
-    let h = multiset::with_tag(old, entries::tag(seal, a as u16, value, stamp));
-    let mut r = s;
-    r.put = h;
-    r.clock = stamp;
-    r
+    let h = multiset::with_tag(s.put, entries::tag(s.seal, a as u16, value, stamp));
+    State {
+        put: h,
+        clock: stamp,
+        ..s
+    }
 }
 
 // Put: the clock is raised by 1, and is the entry's stamp.
@@ -72,11 +69,9 @@ pub fn added(s: State, store: &mut [u8], a: usize, value: &[u8]) -> State
 {
     let mut v = [0u8; State::VALUE];
     lent::copy(&mut v, value);
-    let mut r = put(s, store, a, v);
-    let m = s.marks;
-    let n = marks::with_mark(m, a);
-    r.marks = n;
-    r
+    let r = put(s, store, a, v);
+    let marks = marks::with_mark(s.marks, a);
+    State { marks, ..r }
 }
 
 // Load: a take, and a put of the value read, which is handed out.
@@ -107,10 +102,8 @@ pub fn removed(s: State, store: &mut [u8], a: usize) -> State
     requires { (length store.old ≡ store_size width) × (a < addresses) }
     ensures { seen 0 none result store.new [] ≡ (removed width tag s store.old a).seen }
 {
-    let mut r = take(s, store, a);
+    let r = take(s, store, a);
     crate::cells::write(store, a, [0u8; State::VALUE], 0);
-    let m = s.marks;
-    let n = marks::without_mark(m, a);
-    r.marks = n;
-    r
+    let marks = marks::without_mark(s.marks, a);
+    State { marks, ..r }
 }

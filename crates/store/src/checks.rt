@@ -1,4 +1,6 @@
 // The walks of a check: over words of marks, which say at what addresses.
+// They stay `while` loops: an iterator of these addresses would have a public `size_hint`, of which std's contract admits more than one outcome, and each public
+// function here admits one (docs/TIGHTNESS.md); and a range with a filter would test all 1,024 addresses where few are in use.
 ghost use Rattle.std.specs.Prelude.{◌≡◌, length};
 ghost use Rattle.state.specs.Sizes.{width, store_size};
 ghost use Rattle.state.specs.Check.{take_each, put_each, write_each};

@@ -16,6 +16,6 @@ returns c =
     let s = c.args.s in
     let a = c.args.a in
     let v : c.copy.new.to ≡ c.args.value.now = c.copy.ensures ∙ copied_all (replicate 28 0) c.args.value.now (sym c.requires.2) in
-    same_seen (ap₂ with_marks (c.put-r.ensures.0 ∙ ap (λ u. put_entry tag s (next s a u)) v) c.with_mark-n.ensures)
+    same_seen (ap₂ with_marks (c.put-r.ensures.0 ∙ ap (λ u. put_entry tag s (next s a u)) v) c.with_mark-marks.ensures)
     (c.put-r.ensures.1 ∙ ap (λ u. write_entry width c.args.store.now (next s a u)) v)
     refl

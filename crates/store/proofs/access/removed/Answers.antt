@@ -9,4 +9,4 @@ use Rattle.store.proofs.access.removed.Goals as goal
 pub returns : goal.returns
 unfolding removed with_marks value_size
 returns c =
-    same_seen (ap₂ with_marks c.take-r.ensures c.without_mark-n.ensures) c.write.ensures refl
+    same_seen (ap₂ with_marks c.take-r.ensures c.without_mark-marks.ensures) c.write.ensures refl
