@@ -143,8 +143,8 @@ pub fn remove(h: Held, store: &mut [u8], a: usize) -> Kept
 
 // A refused call leaves the state as it was.
 #[tactic(auto, using(crate::proofs::Place::placed), unfolding(crate::specs::Answers::in_place))]
-fn placed(h: Held, answer: Result<State, Refusal>) -> Kept
-    ensures { (m o : List ℕ) → left result.answer result.state m o ≡ in_place h (moved answer (state_of h) m o) }
+fn placed(before: Held, answer: Result<State, Refusal>) -> Kept
+    ensures { (m o : List ℕ) → left result.answer result.state m o ≡ in_place before (moved answer (state_of before) m o) }
 {
     match answer {
         Ok(s) => Kept {
@@ -153,7 +153,7 @@ fn placed(h: Held, answer: Result<State, Refusal>) -> Kept
         },
         Err(refusal) => Kept {
             answer: refusal.number(),
-            state: h,
+            state: before,
         },
     }
 }
