@@ -59,6 +59,70 @@ pub struct Fields {
     pub prefix: [u8; 16],
 }
 
+// A mark is clear where its byte is 0, and else set.
+impl From<Held> for State {
+    ghost from_gives = { λ h s. s ≡ state_of h };
+
+    #[tactic(auto, unfolding(crate::specs::Held::state_of))]
+    fn from(h: Held) -> State {
+        let key = h.key;
+        let marks = h.marks;
+        let put = h.put;
+        let put_tag = put.tag;
+        let take = h.take;
+        let take_tag = take.tag;
+        State {
+            seal: state::Seal { key },
+            put: state::Hash {
+                tag: put_tag,
+                number: put.number,
+            },
+            take: state::Hash {
+                tag: take_tag,
+                number: take.number,
+            },
+            clock: h.clock,
+            fault: h.fault != 0,
+            first: h.first,
+            closed: h.closed != 0,
+            marks,
+        }
+    }
+}
+
+// A mark is written as 0 or 1.
+impl From<State> for Held {
+    ghost from_gives = { λ s h. h ≡ held_of s };
+
+    #[tactic(auto, unfolding(crate::specs::Held::held_of))]
+    fn from(s: State) -> Held {
+        let seal = s.seal;
+        let key = seal.key;
+        let marks = s.marks;
+        let put = s.put;
+        let put_tag = put.tag;
+        let take = s.take;
+        let take_tag = take.tag;
+        Held {
+            key,
+            marks,
+            put: Hash {
+                tag: put_tag,
+                number: put.number,
+            },
+            take: Hash {
+                tag: take_tag,
+                number: take.number,
+            },
+            clock: s.clock,
+            fault: s.fault as u8,
+            closed: s.closed as u8,
+            first: s.first,
+            unused: 0,
+        }
+    }
+}
+
 // 0 is IPv4, and else IPv6; 0 is deny, and else permit.
 impl From<Fields> for FilterRecord {
     ghost from_gives = { λ f r. r ≡ record_of f };
@@ -109,7 +173,7 @@ pub fn start(key: &[u8]) -> Kept
     let started = State::start(key);
     Kept {
         answer: refusal::told(started.answer),
-        state: held_of(started.state),
+        state: Held::from(started.state),
     }
 }
 
@@ -117,28 +181,28 @@ pub fn add(h: Held, store: &mut [u8], a: usize, value: &[u8]) -> Kept
     ensures { left result.answer result.state store.new []
         ≡ in_place h (add_of width tag (state_of h) store.old a value.now).seen }
 {
-    placed(h, store::add(state_of(h), store, a, value))
+    placed(h, store::add(State::from(h), store, a, value))
 }
 
 pub fn load(h: Held, store: &mut [u8], a: usize, out: &mut [u8]) -> Kept
     ensures { left result.answer result.state store.new out.new
         ≡ in_place h (load_of width tag (state_of h) store.old a out.old).seen }
 {
-    placed(h, store::load(state_of(h), store, a, out))
+    placed(h, store::load(State::from(h), store, a, out))
 }
 
 pub fn store(h: Held, store: &mut [u8], a: usize, value: &[u8]) -> Kept
     ensures { left result.answer result.state store.new []
         ≡ in_place h (store_of width tag (state_of h) store.old a value.now).seen }
 {
-    placed(h, store::store(state_of(h), store, a, value))
+    placed(h, store::store(State::from(h), store, a, value))
 }
 
 pub fn remove(h: Held, store: &mut [u8], a: usize) -> Kept
     ensures { left result.answer result.state store.new []
         ≡ in_place h (remove_of width tag (state_of h) store.old a).seen }
 {
-    placed(h, store::remove(state_of(h), store, a))
+    placed(h, store::remove(State::from(h), store, a))
 }
 
 // A refused call leaves the state as it was.
@@ -149,7 +213,7 @@ fn placed(before: Held, answer: Result<State, Refusal>) -> Kept
     match answer {
         Ok(s) => Kept {
             answer: 0,
-            state: held_of(s),
+            state: Held::from(s),
         },
         Err(refusal) => Kept {
             answer: refusal.number(),
@@ -172,10 +236,10 @@ pub fn check(h: Held, store: &mut [u8], address: usize) -> Judged
         ≡ in_place h (check_of width tag (state_of h) store.old).seen)
         × (result.address ≡ stamp_or address (check_of width tag (state_of h) store.old).seen.verdict) }
 {
-    match store::check(state_of(h), store) {
+    match store::check(State::from(h), store) {
         Ok(checked) => Judged {
             answer: verdict_answer(checked.verdict),
-            state: held_of(checked.state),
+            state: Held::from(checked.state),
             address: stamp_or(address, checked.verdict),
         },
         Err(refusal) => Judged {
@@ -186,10 +250,11 @@ pub fn check(h: Held, store: &mut [u8], address: usize) -> Judged
     }
 }
 
+#[tactic(auto, unfolding(crate::specs::Held::state_of))]
 pub fn count(h: Held) -> u32
     ensures { result ≡ count_of h.marks }
 {
-    store::count(state_of(h))
+    store::count(State::from(h))
 }
 
 // What lowest free gives: its number, and what the lent address is after it.
@@ -203,7 +268,7 @@ pub struct Lowest {
 pub fn lowest_free(h: Held, address: usize) -> Lowest
     ensures { (result.number ≡ free_number (lowest_of h.marks)) × (result.address ≡ free_or address (lowest_of h.marks)) }
 {
-    let free = store::lowest_free(state_of(h));
+    let free = store::lowest_free(State::from(h));
     Lowest {
         number: refusal::told(free.and(Ok(()))),
         address: free.unwrap_or(address),
@@ -248,62 +313,6 @@ pub fn compare(held: Fields, offered: Fields, distance: i32) -> Weighed
     Weighed {
         answer: going_answer(going),
         distance: distance_or(distance, going),
-    }
-}
-
-fn state_of(h: Held) -> State
-    ensures { result ≡ state_of h }
-{
-    let key = h.key;
-    let marks = h.marks;
-    let put = h.put;
-    let put_tag = put.tag;
-    let take = h.take;
-    let take_tag = take.tag;
-    State {
-        seal: state::Seal { key },
-        put: state::Hash {
-            tag: put_tag,
-            number: put.number,
-        },
-        take: state::Hash {
-            tag: take_tag,
-            number: take.number,
-        },
-        clock: h.clock,
-        fault: h.fault != 0,
-        first: h.first,
-        closed: h.closed != 0,
-        marks,
-    }
-}
-
-fn held_of(s: State) -> Held
-    ensures { result ≡ held_of s }
-{
-    let seal = s.seal;
-    let key = seal.key;
-    let marks = s.marks;
-    let put = s.put;
-    let put_tag = put.tag;
-    let take = s.take;
-    let take_tag = take.tag;
-    Held {
-        key,
-        marks,
-        put: Hash {
-            tag: put_tag,
-            number: put.number,
-        },
-        take: Hash {
-            tag: take_tag,
-            number: take.number,
-        },
-        clock: s.clock,
-        fault: s.fault as u8,
-        closed: s.closed as u8,
-        first: s.first,
-        unused: 0,
     }
 }
 

@@ -64,6 +64,8 @@ exported = record {
   held_check = record { any = λ κs a. tt; one = λ κs a r r' l l'. both judged (λ y n. (tt, (y.store, (tt, tt)))) };
   held_count = record { any = λ κs a. tt; one = λ κs a r r' l l'. plain };
   held_lowest_free = record { any = λ κs a. tt; one = λ κs a r r' l l'. both lowest (λ n a. (tt, (tt, tt))) };
+  held_state = record { any = λ κs a. tt; one = λ κs a r r' l l'. plain };
+  held_held = record { any = λ κs a. tt; one = λ κs a r r' l l'. plain };
   held_record = record { any = λ κs a. tt; one = λ κs a r r' l l'. plain };
   held_fields = record { any = λ κs a. tt; one = λ κs a r r' l l'. plain };
   held_pack = record { any = λ κs a. tt; one = λ κs a r r' l l'. again number (λ y. (tt, (y.out, tt))) };

@@ -28,6 +28,10 @@ use Rattle.held.specs.contracts.count as HeldCount
 use Rattle.held.proofs.count.Reads as HeldCountReads
 use Rattle.held.specs.contracts.lowest_free as HeldLowestFree
 use Rattle.held.proofs.lowest_free.Reads as HeldLowestFreeReads
+use Rattle.held.specs.contracts.StateFromHeld.from as HeldState
+use Rattle.held.proofs.StateFromHeld.from.Reads as HeldStateReads
+use Rattle.held.specs.contracts.HeldFromState.from as HeldHeld
+use Rattle.held.proofs.HeldFromState.from.Reads as HeldHeldReads
 use Rattle.held.specs.contracts.FilterRecordFromFields.from as HeldRecord
 use Rattle.held.proofs.FilterRecordFromFields.from.Reads as HeldRecordReads
 use Rattle.held.specs.contracts.FieldsFromFilterRecord.from as HeldFields
@@ -83,6 +87,8 @@ pub record Exported : Type 2 where
   pub held_check : Tight HeldCheck.ended HeldCheckReads.Asked HeldCheckReads.Learnt
   pub held_count : Tight HeldCount.ended HeldCountReads.Asked HeldCountReads.Learnt
   pub held_lowest_free : Tight HeldLowestFree.ended HeldLowestFreeReads.Asked HeldLowestFreeReads.Learnt
+  pub held_state : Tight HeldState.ended HeldStateReads.Asked HeldStateReads.Learnt
+  pub held_held : Tight HeldHeld.ended HeldHeldReads.Asked HeldHeldReads.Learnt
   pub held_record : Tight HeldRecord.ended HeldRecordReads.Asked HeldRecordReads.Learnt
   pub held_fields : Tight HeldFields.ended HeldFieldsReads.Asked HeldFieldsReads.Learnt
   pub held_pack : Tight HeldPack.ended HeldPackReads.Asked HeldPackReads.Learnt
