@@ -3,13 +3,14 @@ use mathlib.Core.Path.{◌≡◌, refl, sym, ap, subst, ◌∙◌}
 use mathlib.Core.Bool.{Bool, true, false, not, cond}
 use mathlib.Core.Logic.{◌↔◌, ◌⊎◌, inl, inr, ⊎_elim, ⊎_map}
 use Rattle.std.specs.Prelude.{Option, Some, None}
+use Rattle.std.proofs.lemmas.Int.{ints, by_lt_z}
 use Rattle.std.proofs.lemmas.Option.{none-some, same_Some}
-use Prim.Native.Nat.{ℕ, zero, suc, ◌+◌, ◌-◌, ◌^◌, ◌<◌, zero-le}
+use Prim.Native.Nat.{ℕ, ◌+◌, ◌^◌, ◌<◌}
 use native.Mathlib.Omega.{arith}
-use lib.Dec.{eqb, ltb, T, lt→ltb, le→leb}
-use lib.IntN.{ℤ, pos, negsuc, neg_ℤ, nat_abs, ◌-ℤ◌}
-use lib.Signed.{lt_z, ◌<ℤ◌, ◌≤ℤ◌, lt_z_yes, lt_z_no, le_z_yes, clash_ℤ}
-use borrow.Author.Tests.{eqb-true, eqb-false, le-ltb}
+use lib.Dec.{eqb, ltb, T}
+use lib.IntN.{ℤ, pos, neg_ℤ, ◌-ℤ◌}
+use lib.Signed.{lt_z, ◌<ℤ◌, ◌≤ℤ◌, lt_z_yes, lt_z_no, clash_ℤ}
+use borrow.Author.Tests.{eqb-true, eqb-false}
 use Rattle.filter.specs.declared.FilterRecord.{FilterRecord}
 use Rattle.serials.specs.Order.{Serial, Less, Apart}
 use Rattle.serials.specs.Distance.{IsDistance, distance_of}
@@ -33,18 +34,11 @@ by_sign P d b f = go (lt_z d (pos 0)) refl
 
 -- 0 or above it
 not_negative : (d : ℤ) → (pos 0 ≤ℤ d) ↔ ((d ≡ pos 0) ⊎ (pos 0 <ℤ d))
-not_negative (pos zero) = ((λ l. inl refl), (λ q. le_z_yes tt))
-not_negative (pos (suc n)) = ((λ l. inr (lt_z_yes (lt→ltb 0 (suc n) (omega arith)))), (λ q. le_z_yes (le→leb 0 (suc n) (omega arith))))
-not_negative (negsuc n) = ((λ l. absurd l.le), (λ q. ⊎_elim (λ e. absurd (omega (arith, ap nat_abs e))) (λ l. absurd l.lt) q))
+not_negative d = ((λ l. by_lt_z (pos 0) d inr (λ m. inl (grind (arith, ints)))), ⊎_elim (λ e. grind (arith, ints)) (λ l. grind (arith, ints)))
 
 -- of a difference, the order of the two numbers
 sign_of : (a b : ℕ) → lt_z (pos a -ℤ pos b) (pos 0) ≡ ltb a b
-sign_of a zero = le-ltb (a + 0) 0 zero-le ∙ sym (le-ltb a 0 zero-le)
-sign_of a (suc b) = go (ltb a (suc b))
-  where
-    go : (t : Bool) → lt_z (cond t (negsuc (suc b - suc a)) (pos (a - suc b))) (pos 0) ≡ t
-    go true = refl
-    go false = le-ltb (a - suc b) 0 zero-le
+sign_of a b = grind (arith, ints)
 
 directed_difference : (a b : ℕ) → let d = pos a -ℤ pos b in directed d ≡ cond (ltb a b) (Back d) (Forward d)
 unfolding directed

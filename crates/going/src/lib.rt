@@ -6,6 +6,7 @@ ghost use Rattle.going.specs.Going.{going_of};
 
 use filter::FilterRecord;
 
+// Four cases, and no `Option` of the distance: who matches on `Back` cannot forget the sign, and `NoOrder` alone has a number, 16.
 #[derive(Clone, Copy)]
 pub enum Going {
     OtherMember,

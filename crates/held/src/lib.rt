@@ -281,7 +281,7 @@ pub fn pack(f: Fields, out: &mut [u8]) -> u8
     refusal::told(filter::pack(FilterRecord::from(f), out))
 }
 
-// What unpack gives: its number, and the filter record as it is held.
+// What unpack gives: its number, as C is answered, and the filter record as it is held.
 #[derive(Clone, Copy)]
 pub struct Read {
     pub number: u8,
@@ -298,7 +298,7 @@ pub fn unpack(bytes: &[u8]) -> Read
     }
 }
 
-// What a comparison gives: its answer, and what the lent distance is after it.
+// What a comparison gives: its answer, a number as C has it, and what the lent distance is after it.
 #[derive(Clone, Copy)]
 pub struct Weighed {
     pub answer: u8,

@@ -15,10 +15,20 @@ const EDGES: [u32; 18] = [
     2147483650, 3221225472, 4294901760, 4294967293, 4294967294, 4294967295,
 ];
 
-// How many distances `near` has, and how many filter records `shaped`.
+// How many distances `near` has.
 const NEAR: u32 = 14;
 
-const SHAPES: u32 = 8;
+// Lawful filter records: the first, those that differ from it in one field, and two that do in most of them.
+const SHAPES: [(Family, Action, u8, u8, u8); 8] = [
+    (Family::Ipv4, Action::Permit, 24, 24, 192),
+    (Family::Ipv6, Action::Permit, 24, 24, 192),
+    (Family::Ipv4, Action::Deny, 24, 24, 192),
+    (Family::Ipv4, Action::Permit, 23, 24, 192),
+    (Family::Ipv4, Action::Permit, 24, 32, 192),
+    (Family::Ipv4, Action::Permit, 24, 24, 198),
+    (Family::Ipv6, Action::Deny, 128, 128, 32),
+    (Family::Ipv6, Action::Deny, 0, 128, 0),
+];
 
 // How far from the one held: equal, half way round, one ahead, one back.
 const WAYS: [u32; 4] = [0, HALF, 1, u32::MAX];
@@ -28,8 +38,8 @@ fn main(rt: HostRuntime) -> io::Result<()> {
     each(&rt, NEAR * 20, nearby)?;
     each(&rt, 64, powers)?;
     each(&rt, 400, mixed)?;
-    each(&rt, 128, members)?;
-    each(&rt, 256, shapes)
+    each(&rt, 32 * 4, members)?;
+    each(&rt, 8 * 8 * 4, shapes)
 }
 
 // An edge serial with an edge serial.
@@ -88,8 +98,8 @@ fn mixed(n: u32) -> (FilterRecord, FilterRecord) {
         member
     };
     (
-        shaped(high(held), member, held),
-        shaped(high(offered), other, offered),
+        shaped(held >> 16, member, held),
+        shaped(offered >> 16, other, offered),
     )
 }
 
@@ -107,8 +117,8 @@ fn shapes(n: u32) -> (FilterRecord, FilterRecord) {
     let held = next(n);
     let two = n / 4;
     (
-        shaped(two / SHAPES, 64500, held),
-        shaped(two % SHAPES, 64500, held.wrapping_add(way(n))),
+        shaped(two / 8, 64500, held),
+        shaped(two, 64500, held.wrapping_add(way(n))),
     )
 }
 
@@ -121,34 +131,14 @@ fn near(i: u32) -> u32 {
     }
 }
 
+// Each in turn.
 fn way(n: u32) -> u32 {
     WAYS[(n % 4) as usize]
 }
 
-// A lawful filter record: the first, or one that differs from it in one field, or in most of them.
-fn shaped(i: u32, member: u32, serial: u32) -> FilterRecord {
-    match i {
-        0 => made(Family::Ipv4, Action::Permit, 24, 24, member, serial, 192),
-        1 => made(Family::Ipv6, Action::Permit, 24, 24, member, serial, 192),
-        2 => made(Family::Ipv4, Action::Deny, 24, 24, member, serial, 192),
-        3 => made(Family::Ipv4, Action::Permit, 23, 24, member, serial, 192),
-        4 => made(Family::Ipv4, Action::Permit, 24, 32, member, serial, 192),
-        5 => made(Family::Ipv4, Action::Permit, 24, 24, member, serial, 198),
-        6 => made(Family::Ipv6, Action::Deny, 128, 128, member, serial, 32),
-        _ => made(Family::Ipv6, Action::Deny, 0, 128, member, serial, 0),
-    }
-}
-
-// A filter record whose prefix has one byte, its first.
-fn made(
-    family: Family,
-    action: Action,
-    length: u8,
-    longest: u8,
-    member: u32,
-    serial: u32,
-    first: u8,
-) -> FilterRecord {
+// The filter record of a shape: its prefix has one byte, the first.
+fn shaped(shape: u32, member: u32, serial: u32) -> FilterRecord {
+    let (family, action, length, longest, first) = SHAPES[(shape % 8) as usize];
     let mut prefix = [0u8; 16];
     prefix[0] = first;
     FilterRecord {
@@ -171,11 +161,6 @@ fn next(x: u32) -> u32 {
 fn mix(x: u32) -> u32 {
     let a = next(x);
     a & 0xffff_0000 | next(a) >> 16
-}
-
-// A shape by a number's higher bits.
-fn high(x: u32) -> u32 {
-    (x >> 16) % SHAPES
 }
 
 // A case: the bytes of the two filter records, and what is said of the filter records that these bytes are.

@@ -3,12 +3,11 @@ use Rattle.std.proofs.Common.{◌≡◌, ℕ, zero, suc, ◌+◌, ◌^◌, ◌<�
 use mathlib.Core.Logic.Iff
 use mathlib.Core.Logic.{⊎_swap}
 use Rattle.std.proofs.lemmas.Option.{none-some, same_Some}
-use lib.IntN.{+ℤ_idr}
+use Rattle.std.proofs.lemmas.Int.{ints}
 use borrow.Author.Tests.{eqb-false}
 use Rattle.serials.specs.Order.{Less, Greater}
 use Rattle.serials.specs.Distance.{IsDistance, wrapped, signed_of, distance_of}
 use Rattle.serials.specs.Claims.{Rfc1982, Measures, Exact}
-use Rattle.serials.proofs.Whole.{across}
 use Rattle.serials.proofs.Sign.{Reads, read, reads_is, reads_off, reads_back, reads_equal, reads_forward, signed_low, signed_high, opposite, measured}
 use Rattle.serials.proofs.Up.{ByUp, by_up}
 
@@ -30,8 +29,7 @@ module _ {held offered u : ℕ} (a : ByUp held offered u) where
   -- less than 2^31 apart as plain numbers
   difference : held < offered + 2 ^ 31 → offered < held + 2 ^ 31 → signed_of u ≡ pos offered -ℤ pos held
   difference p q =
-      a.turn (λ l t. signed_low u (omega arith) ∙ sym (+ℤ_idr (pos u)) ∙ across u 0 offered held (omega arith))
-      (λ l t. signed_high u (omega arith) ∙ across u (2 ^ 32) offered held (omega arith))
+      a.turn (λ l t. signed_low u (omega arith) ∙ omega (arith, ints, t)) (λ l t. signed_high u (omega arith) ∙ omega (arith, ints, t))
 
   not_half : held < offered + 2 ^ 31 → offered < held + 2 ^ 31 → u ≡ 2 ^ 31 → ⊥
   not_half p q e = a.turn (λ l t. omega arith) (λ l t. omega arith)

@@ -1,4 +1,3 @@
-pub mod Whole
 pub mod Sign
 pub mod Up
 pub mod Distances

@@ -1,9 +1,8 @@
 -- A number below 2^32 read as a signed one: itself below 2^31, and else 2^32 less. Assumes nothing.
 use Rattle.std.proofs.Common.{◌≡◌, ℕ, suc, ◌+◌, ◌-◌, ◌^◌, ◌<◌, ◌≤◌, Bool, true, false, cond, ltb, ◌↔◌, ℤ, pos, negsuc, ◌-ℤ◌, nat_abs, ◌<ℤ◌, sym, refl, ap, ◌∙◌, subst, arith, ltb→lt, lt→ltb, ltb-false, ltb-true, le-ltb, lt-ltb, eq-eqb, ne_eqb, Some, None, w32, to_z}
-use lib.IntN.{+ℤ_idl}
+use Rattle.std.proofs.lemmas.Int.{ints}
 use lib.Signed.{lt_z_yes}
 use Rattle.serials.specs.Distance.{wrapped, signed_of, distance_of}
-use Rattle.serials.proofs.Whole.{pos_one, across}
 
 pub signed_low : (up : ℕ) → up < 2 ^ 31 → signed_of up ≡ pos up
 unfolding signed_of
@@ -14,15 +13,13 @@ unfolding signed_of
 signed_high up l = ap (λ t. cond t (pos up) (pos up -ℤ pos (2 ^ 32))) (le-ltb up (2 ^ 31) l)
 
 pub signed_below : (up n : ℕ) → 2 ^ 31 ≤ up → up + suc n ≡ 2 ^ 32 → signed_of up ≡ negsuc n
-signed_below up n l e = signed_high up l ∙ across up (2 ^ 32) 0 (suc n) e ∙ +ℤ_idl (negsuc n)
+signed_below up n l e = signed_high up l ∙ omega (arith, ints, e)
 
 -- -1 - n
 -- as the bits of an `i32` are read
 pub signed : (up : ℕ) → up < 2 ^ 32 → to_z w32 up ≡ signed_of up
 unfolding signed_of
-signed up b =
-    let n = 2 ^ 32 - suc up in
-    ap (cond (ltb up (2 ^ 31)) (pos up)) (sym (across up (2 ^ 32) 0 (suc n) (omega arith) ∙ +ℤ_idl (negsuc n)))
+signed up b = ap (cond (ltb up (2 ^ 31)) (pos up)) (omega (arith, ints, b))
 
 -- ---- u, read as a signed number, is d, and that is no less than 1 - 2^31
 
@@ -54,7 +51,7 @@ module _ (u : ℕ) where
   reads_back (negsuc n) r = ((λ b. omega (arith, r.0, r.1)), (λ l. lt_z_yes tt))
 
   pub reads_equal : (d : ℤ) → Reads u d → (d ≡ pos 0) ↔ (u ≡ 0)
-  reads_equal (pos n) r = ((λ e. r.1 ∙ pos_one e), (λ e. ap pos (sym r.1 ∙ e)))
+  reads_equal (pos n) r = ((λ e. omega (arith, ints, r.1, e)), (λ e. ap pos (sym r.1 ∙ e)))
   reads_equal (negsuc n) r = ((λ e. omega (arith, ap nat_abs e)), (λ e. absurd (omega (arith, r.0, r.1))))
 
   pub reads_forward : (d : ℤ) → Reads u d → (pos 0 <ℤ d) ↔ ((0 < u) × (u < 2 ^ 31))

@@ -1,9 +1,9 @@
 -- The wrapped difference u, how far it is up from one serial number to another, decides their order; and it is the distance, or 2^32 more. Assumes nothing.
 use Rattle.std.proofs.Common.{◌≡◌, ℕ, ◌+◌, ◌^◌, ◌<◌, ◌≤◌, Bool, true, false, ltb, ◌↔◌, ℤ, pos, negsuc, refl, inl, inr, ⊎_elim, arith, le→leb, leb→le, ltb-false, ltb-true}
 use lib.Signed.{le_z_yes}
+use Rattle.std.proofs.lemmas.Int.{ints}
 use Rattle.serials.specs.Order.{Serial, Less, Apart}
 use Rattle.serials.specs.Distance.{IsDistance, wrapped}
-use Rattle.serials.proofs.Whole.{in_naturals, in_wholes}
 use Rattle.serials.proofs.Sign.{Reads}
 
 -- what u tells of the two
@@ -36,26 +36,22 @@ module _ (held offered : ℕ) (h : Serial held) (o : Serial offered) where
   distance : (d : ℤ) → IsDistance held offered d ↔ Reads u d
   distance (pos n) = (
     (λ i. let m = leb→le n 2147483647 i.most.le in
-        let e = in_naturals held offered (2 ^ 32) (pos n) i.reaches.0 i.reaches.1 in
-        (omega (arith, m), turn (λ l t. omega (arith, m, e)) (λ l t. omega (arith, m, e)))),
+        let e = i.reaches.1 in
+        (omega (arith, m), turn (λ l t. omega (arith, ints, h, o, below, t, m, e)) (λ l t. omega (arith, ints, h, o, below, t, m, e)))),
     (λ r. record {
       least = le_z_yes tt;
       most = le_z_yes (le→leb n 2147483647 (omega (arith, r.0)));
-      reaches =
-          turn (λ l t. (pos 0, in_wholes held offered (2 ^ 32) (pos n) (pos 0) (omega (arith, r.1))))
-          (λ l t. (pos 1, in_wholes held offered (2 ^ 32) (pos n) (pos 1) (omega (arith, r.1))));
+      reaches = turn (λ l t. (pos 0, omega (arith, ints, t, r.1))) (λ l t. (pos 1, omega (arith, ints, t, r.1)));
     }),
   )
   distance (negsuc n) = (
     (λ i. let m = leb→le n 2147483646 i.least.le in
-        let e = in_naturals held offered (2 ^ 32) (negsuc n) i.reaches.0 i.reaches.1 in
-        (omega (arith, m), turn (λ l t. omega (arith, m, e)) (λ l t. omega (arith, m, e)))),
+        let e = i.reaches.1 in
+        (omega (arith, m), turn (λ l t. omega (arith, ints, h, o, below, t, m, e)) (λ l t. omega (arith, ints, h, o, below, t, m, e)))),
     (λ r. record {
       least = le_z_yes (le→leb n 2147483646 (omega (arith, r.0)));
       most = le_z_yes tt;
-      reaches =
-          turn (λ l t. (negsuc 0, in_wholes held offered (2 ^ 32) (negsuc n) (negsuc 0) (omega (arith, r.1))))
-          (λ l t. (pos 0, in_wholes held offered (2 ^ 32) (negsuc n) (pos 0) (omega (arith, r.1))));
+      reaches = turn (λ l t. (negsuc 0, omega (arith, ints, t, r.1))) (λ l t. (pos 0, omega (arith, ints, t, r.1)));
     }),
   )
 
