@@ -91,7 +91,7 @@ pub fn all<F: FnMut(&[u8]) -> [u8; 32]>(
     seen
 }
 
-// Room for a file.
+// Room for a file. One that fills it is told to be too long, so that there is no `Vec` that grows.
 pub fn room() -> [u8; 524288]
     ensures { 524288 ≡ length result }
 {
@@ -99,11 +99,7 @@ pub fn room() -> [u8; 524288]
 }
 
 // Reads a file into its room, and gives the part that it fills.
-pub fn read<'a>(
-    rt: &(impl Files + Print),
-    path: &str,
-    room: &'a mut [u8],
-) -> io::Result<&'a [u8]> {
+pub fn read<'a>(rt: &(impl Files + Print), path: &str, room: &'a mut [u8]) -> io::Result<&'a [u8]> {
     let mut opened = fs::open(rt, path)?;
     let n = read_full(&mut opened, room)?;
     if n == room.len() {
