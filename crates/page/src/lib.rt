@@ -1,4 +1,5 @@
 // A page: a lent buffer that is written piece by piece, each piece after the one before, as much as fits.
+// It is no `fmt::Write`: `write!` answers a `Result`, and a page refuses nothing.
 #![tactic(auto)]
 
 ghost use Rattle.std.specs.Prelude.{◌≡◌, ◌<◌};

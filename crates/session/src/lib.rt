@@ -17,7 +17,7 @@ pub const LIMIT: usize = 4096;
 // The buffer that holds whatever a session prints.
 pub const ROOM: usize = 131072;
 
-// Runs a whole session: all that it prints is written to the head of `out`. Gives how much that is.
+// Runs a whole session: all that it prints is written to the head of `out`. Gives how much that is, and not the part: the claim `Tied.bench` is of both.
 pub fn run(input: &[u8], out: &mut [u8; ROOM]) -> usize
     ensures { page out.new result ≡ whole out.old (session_of input.now) }
 {

@@ -1,4 +1,5 @@
 // Words, numbers and bytes as text, in ASCII: the number or the byte that a word writes.
+// std's `parse` and `from_str_radix` serve for neither: they read a sign, leading zeros and upper-case digits too.
 #![tactic(auto)]
 
 ghost use Rattle.std.specs.Prelude.{◌≡◌};

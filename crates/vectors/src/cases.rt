@@ -91,32 +91,31 @@ pub fn all<F: FnMut(&[u8]) -> [u8; 32]>(
     seen
 }
 
-// Room for a file.
+// Room for a file. One that fills it is told to be too long, so that there is no `Vec` that grows.
 pub fn room() -> [u8; 524288]
     ensures { 524288 ≡ length result }
 {
     [0; 524288]
 }
 
-// Reads a file into its room, and gives its length.
-pub fn read(rt: &(impl Files + Print), path: &str, file: &mut [u8]) -> io::Result<usize>
-    ensures { IfOk result (λ n. n ≤ length file.new) }
-{
+// Reads a file into its room, and gives the part that it fills.
+pub fn read<'a>(rt: &(impl Files + Print), path: &str, room: &'a mut [u8]) -> io::Result<&'a [u8]> {
     let mut opened = fs::open(rt, path)?;
-    let n = read_full(&mut opened, file)?;
-    if n == file.len() {
+    let n = read_full(&mut opened, room)?;
+    if n == room.len() {
         rt.write_all(b"too long: ")?;
     }
-    Ok(n)
+    Ok(&room[..n])
 }
 
-// Reads until the room is full or the file ends, and gives how much was read.
-fn read_full(opened: &mut impl Read, file: &mut [u8]) -> io::Result<usize>
-    ensures { IfOk result (λ n. n ≤ length file.new) }
+// Reads until the room is full or the file ends, and gives how much was read. The bench has such a function of its own: neither is in a library, where a
+// contract fixes each outcome, as it can't where a reader decides it.
+fn read_full(opened: &mut impl Read, room: &mut [u8]) -> io::Result<usize>
+    ensures { IfOk result (λ n. n ≤ length room.new) }
 {
     let mut n = 0;
-    while n < file.len() {
-        let more = opened.read(&mut file[n..])?;
+    while n < room.len() {
+        let more = opened.read(&mut room[n..])?;
         if more == 0 {
             break;
         }
@@ -136,9 +135,9 @@ fn run<F: FnMut(&[u8]) -> [u8; 32]>(
     requires short { shortest ≤ 32 }
     requires callable { F.IsAlwaysCallable given }
 {
-    let mut file = room();
-    let n = read(rt, path, &mut file)?;
-    all(&file[..n], b"Len = ", shortest, given).report(rt, name)
+    let mut room = room();
+    let file = read(rt, path, &mut room)?;
+    all(file, b"Len = ", shortest, given).report(rt, name)
 }
 
 // Runs the cases of a file of digests.

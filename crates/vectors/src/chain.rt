@@ -34,8 +34,7 @@ fn thousandth(seed: [u8; 32]) -> [u8; 32] {
 // Runs the chain of a file, and prints how many of its digests agree.
 pub fn run(rt: &(impl Files + Print), path: &str, name: &str) -> io::Result<()> {
     let mut room = cases::room();
-    let n = cases::read(rt, path, &mut room)?;
-    let file = &room[..n];
+    let file = cases::read(rt, path, &mut room)?;
     let mut digest = [0u8; 32];
     values::named(file, b"Seed = ", &mut digest);
     cases::all(file, b"COUNT = ", 32, |_| {

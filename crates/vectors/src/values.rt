@@ -1,7 +1,8 @@
 // The values in a file of vectors: its lines are `NAME = VALUE`, comments, headings and blank lines, with or without a carriage return before the newline.
 ghost use Rattle.std.specs.Prelude.{◌≤◌, length};
 
-// What follows a name in the first line that begins with it, on to the end of the text: nothing where no line does.
+// What follows a name in the first line that begins with it, on to the end of the text: nothing where no line does. A loop over the lines that std's `split`
+// gives would not have the rest of the text at hand.
 pub fn after<'a>(text: &'a [u8], name: &[u8]) -> &'a [u8]
     ensures { length result.now ≤ length text.now }
 {
