@@ -34,7 +34,7 @@ before_cons : (end x : ℕ) (xs : List ℕ) → length (before end (x ∷ xs)) �
 unfolding before
 before_cons end x xs = elim (eqb x end) as (λ b. length (cond b [] (x ∷ before end xs)) ≡ cond b 0 (1 + length (before end xs))) [ true ↦ refl | false ↦ omega arith ]
 
-before_position : (end : ℕ) (s : List ℕ) → length (before end s) ≡ position_or_len (λ b. eqb b end) s
+pub before_position : (end : ℕ) (s : List ℕ) → length (before end s) ≡ position_or_len (λ b. eqb b end) s
 unfolding before
 before_position end s = is_position_or_len (λ l. length (before end l)) (λ b. eqb b end) refl (before_cons end) s
 

@@ -32,19 +32,17 @@ pub fn run(input: &[u8], out: &mut [u8; ROOM]) -> usize
     page.at
 }
 
-// Runs each line of an input. What follows a last newline is a line only if it is not empty, where std's `split` gives an empty one.
+// Runs each line of an input. What follows a last newline is a line only if it is not empty: std's `split` would give an empty one.
 fn run_lines(s: State, store: &mut [u8; State::STORE], input: &[u8], page: &mut Page)
     requires { page.old.at ≤ length page.old.bytes.now }
     ensures { page.new ≡ written page.old (output_of s store.old (lines_in input.now)) }
 {
     let mut state = s;
-    let mut rest = input;
-    while rest.len() > 0 {
-        let end = lines::find(rest, lines::NEWLINE);
-        let ran = commands::run(state, store, lines::parse(&rest[..end]));
+    for part in input.split_inclusive(|b| *b == lines::NEWLINE) {
+        let line = part.strip_suffix(b"\n".as_slice()).unwrap_or(part);
+        let ran = commands::run(state, store, lines::parse(line));
         let answer = ran.answer;
         state = ran.state;
         answers::say(page, answer);
-        rest = &rest[rest.len().min(end + 1)..];
     }
 }

@@ -1,35 +1,38 @@
 -- `session::run_lines` meets its contract: what is written, and then what the lines that are left print, is what the whole session prints. Assumes nothing.
-use mathlib.Core.Path.{refl, sym, ap, ◌∙◌}
+use Rattle.std.proofs.Common.{rules}
+use mathlib.Core.Path.{sym, ap, ◌∙◌}
 use native.Mathlib.Omega.{arith}
-use lib.ListN.{length, drop, length-take, length-drop}
-use Prim.Native.Nat.{◌-◌}
+use mathlib.Core.List.{◌∷◌}
+use lib.Dec.{eqb}
+use Rattle.std.specs.Slice.Iter.{split_inclusive_rest}
+use Rattle.std.proofs.lemmas.Fn.{always_returns_same}
+use Rattle.lines.specs.Grammar.{newline, lines_in}
 use Rattle.page.specs.Written.{written}
 use Rattle.page.proofs.Pages.{written_within, written_none}
 use Rattle.session.specs.Session.{output_of}
-use Rattle.session.proofs.Turns.{turn, next_line, no_lines}
+use Rattle.session.proofs.Turns.{turn, cut_is, first_line, no_lines}
 use Rattle.session.proofs.run_lines.Goals as goal
 
-pub loop-rest-init : goal.loop-rest-init
-loop-rest-init c = (omega arith, c.requires, refl)
+pub loop-part-init : goal.loop-part-init
+loop-part-init c =
+    let e = ap split_inclusive_rest c.into_iter-part-iterator.ensures.into_iter_gives ∙ c.split_inclusive-part-items.ensures.rest in
+    (c.requires, ap (λ l. written c.args.page.now (output_of c.args.s c.args.store.now (lines_in l))) e)
 
-pub overflow_add-end : goal.overflow_add-end
-overflow_add-end c = omega (arith, c.loop-rest.invariant.0, c.find-end.ensures, c.well_formed)
-
-pub loop-rest-preserved : goal.loop-rest-preserved
-loop-rest-preserved c =
-    let l = c.loop-rest in
-    let r = l.rest.now in
-    let m = c.min.result in (
-      omega (arith, length-take (length r - m) (drop m r), length-drop m r, l.invariant.0),
+pub loop-part-preserved : goal.loop-part-preserved
+loop-part-preserved c =
+    let l = c.loop-part in
+    let k = c.in-Some.ensures.steps in
+    let at = k.1.2 (λ b. eqb b newline) (always_returns_same _ _ _ (λ x b q k. search rules)) in
+    let line = cut_is c.strip_suffix.result c.in-Some.part c.unwrap_or-line.result c.unwrap_or-line.ensures (search rules) in (
       written_within _ _ _ c.say.ensures,
       turn _ _ _ _ _ _ _ _ c.parse.ensures c.run-ran.ensures c.say.ensures
-          ∙ ap (λ ls. written l.page (output_of l.state l.store ls)) (next_line r c.find-end.result m c.find-end.ensures.0 (omega arith) c.min.ensures)
-          ∙ l.invariant.2,
+          ∙ ap (λ ls. written l.page (output_of l.state l.store ls)) (ap (λ x. x ∷ lines_in (split_inclusive_rest c.next.new.self)) line ∙ sym (first_line _ _ _ _ k.0 k.2 k.1.1 at.1))
+          ∙ l.invariant.1,
     )
 
 pub returns : goal.returns
 returns c =
-    let l = c.loop-rest in
-    sym (written_none l.page l.invariant.1)
-    ∙ ap (written l.page) (sym (no_lines l.state l.store l.rest.now (omega arith)))
-    ∙ l.invariant.2
+    let l = c.loop-part in
+    sym (written_none l.page l.invariant.0)
+    ∙ ap (written l.page) (sym (no_lines l.state l.store _ c.in-None.ensures.steps.0))
+    ∙ l.invariant.1

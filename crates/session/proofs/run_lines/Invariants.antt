@@ -2,16 +2,13 @@
 use mathlib.Core.Path.{◌≡◌}
 use Prim.Native.Nat.{◌≤◌}
 use lib.ListN.{length}
+use Rattle.std.specs.Slice.Iter.{split_inclusive_rest}
 use Rattle.lines.specs.Grammar.{lines_in}
 use Rattle.page.specs.Written.{written}
 use Rattle.session.specs.Session.{output_of}
 use Rattle.session.proofs.run_lines.Given as goal
 
-abbrev pub invariant-loop-rest : goal.invariant-loop-rest
-invariant-loop-rest l =
-    (length l.rest ≤ length l.initial.rest)
-    × (l.page.at ≤ length l.page.bytes.now)
-    × (written l.page (output_of l.state l.store (lines_in l.rest)) ≡ written l.initial.page (output_of l.initial.state l.initial.store (lines_in l.initial.rest)))
-
-abbrev pub decreases-loop-rest : goal.decreases-loop-rest
-decreases-loop-rest l = length l.rest
+abbrev pub invariant-loop-part : goal.invariant-loop-part
+invariant-loop-part l =
+    (l.page.at ≤ length l.page.bytes.now)
+    × (written l.page (output_of l.state l.store (lines_in (split_inclusive_rest l.part-iterator))) ≡ written l.initial.page (output_of l.fn.s l.initial.store (lines_in l.input)))
