@@ -1,16 +1,19 @@
 -- `session::run_lines` meets its contract: what is written, and then what the lines that are left print, is what the whole session prints. Assumes nothing.
-use Rattle.std.proofs.Common.{rules}
+use Rattle.std.proofs.Common.{rules, ℕ, List, Bor}
 use mathlib.Core.Path.{sym, ap, ◌∙◌}
 use native.Mathlib.Omega.{arith}
-use mathlib.Core.List.{◌∷◌}
+use mathlib.Core.List.{[], ◌∷◌}
 use lib.Dec.{eqb}
 use Rattle.std.specs.Slice.Iter.{split_inclusive_rest}
 use Rattle.std.proofs.lemmas.Fn.{always_returns_same}
+use Rattle.std.proofs.lemmas.Slice.Eq.{strip_suffix_is}
+use Rattle.std.proofs.lemmas.Bool.Decides.{Decides-eqb}
+use Rattle.lines.specs.Parse.{parsed}
 use Rattle.lines.specs.Grammar.{newline, lines_in}
 use Rattle.page.specs.Written.{written}
 use Rattle.page.proofs.Pages.{written_within, written_none}
 use Rattle.session.specs.Session.{output_of}
-use Rattle.session.proofs.Turns.{turn, cut_is, first_line, no_lines}
+use Rattle.session.proofs.Turns.{turn, first_line, no_lines}
 use Rattle.session.proofs.run_lines.Goals as goal
 
 pub loop-part-init : goal.loop-part-init
@@ -22,11 +25,12 @@ pub loop-part-preserved : goal.loop-part-preserved
 loop-part-preserved c =
     let l = c.loop-part in
     let k = c.in-Some.ensures.steps in
-    let at = k.1.2 (λ b. eqb b newline) (always_returns_same _ _ _ (λ x b q k. search rules)) in
-    let line = cut_is c.strip_suffix.result c.in-Some.part c.unwrap_or-line.result c.unwrap_or-line.ensures (search rules) in (
+    let part = c.in-Some.part in
+    let strip = strip_suffix_is Decides-eqb part.now (newline ∷ []) c.strip_suffix.result (search rules) in
+    let at = k.1.2 (λ b. eqb b newline) (always_returns_same _ _ _ (λ x b q k. search rules)) in (
       written_within _ _ _ c.say.ensures,
-      turn _ _ _ _ _ _ _ _ c.parse.ensures c.run-ran.ensures c.say.ensures
-          ∙ ap (λ ls. written l.page (output_of l.state l.store ls)) (ap (λ x. x ∷ lines_in (split_inclusive_rest c.next.new.self)) line ∙ sym (first_line _ _ _ _ k.0 k.2 k.1.1 at.1))
+      turn _ _ _ _ _ _ _ _ (c.parse.ensures ∙ ap (λ (x : Bor (List ℕ)). parsed x.now) c.unwrap_or-line.ensures) c.run-ran.ensures c.say.ensures
+          ∙ ap (λ ls. written l.page (output_of l.state l.store ls)) (first_line _ part _ _ k.1.0 strip k.0 k.1.1 at.1 k.2)
           ∙ l.invariant.1,
     )
 
