@@ -1,25 +1,18 @@
 -- `session::run_lines` meets its contract: what is written, and then what the lines that are left print, is what the whole session prints. Assumes nothing.
 use Rattle.std.proofs.Common.{rules, ℕ, List, Bor}
 use mathlib.Core.Path.{sym, ap, ◌∙◌}
-use native.Mathlib.Omega.{arith}
 use mathlib.Core.List.{[], ◌∷◌}
 use lib.Dec.{eqb}
-use Rattle.std.specs.Slice.Iter.{split_inclusive_rest}
 use Rattle.std.proofs.lemmas.Fn.{always_returns_same}
 use Rattle.std.proofs.lemmas.Slice.Eq.{strip_suffix_is}
 use Rattle.std.proofs.lemmas.Bool.Decides.{Decides-eqb}
 use Rattle.lines.specs.Parse.{parsed}
-use Rattle.lines.specs.Grammar.{newline, lines_in}
+use Rattle.lines.specs.Grammar.{newline}
 use Rattle.page.specs.Written.{written}
 use Rattle.page.proofs.Pages.{written_within, written_none}
 use Rattle.session.specs.Session.{output_of}
 use Rattle.session.proofs.Turns.{turn, first_line, no_lines}
 use Rattle.session.proofs.run_lines.Goals as goal
-
-pub loop-part-init : goal.loop-part-init
-loop-part-init c =
-    let e = ap split_inclusive_rest c.into_iter-part-iterator.ensures.into_iter_gives ∙ c.split_inclusive-part-items.ensures.rest in
-    (c.requires, ap (λ l. written c.args.page.now (output_of c.args.s c.args.store.now (lines_in l))) e)
 
 pub loop-part-preserved : goal.loop-part-preserved
 loop-part-preserved c =
