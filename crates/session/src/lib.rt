@@ -41,8 +41,7 @@ fn run_lines(s: State, store: &mut [u8; State::STORE], input: &[u8], page: &mut 
     for part in input.split_inclusive(|b| *b == lines::NEWLINE) {
         let line = part.strip_suffix(&[lines::NEWLINE]).unwrap_or(part);
         let ran = commands::run(state, store, lines::parse(line));
-        let answer = ran.answer;
         state = ran.state;
-        answers::say(page, answer);
+        answers::say(page, ran.answer);
     }
 }
