@@ -72,7 +72,8 @@ fn mac(case: &[u8], message: &[u8], out: &mut [u8]) {
     }
 }
 
-// What every case of a file says. A case begins with the value of its line of this name.
+// What every case of a file says. A case begins with the value of its line of this name. The search for the next goes on one byte later, in the middle
+// of that line, so no iterator over the lines gives what the loop sees.
 pub fn all<F: FnMut(&[u8]) -> [u8; 32]>(
     file: &[u8],
     name: &[u8],

@@ -1,20 +1,16 @@
 // The values in a file of vectors: its lines are `NAME = VALUE`, comments, headings and blank lines, with or without a carriage return before the newline.
 ghost use Rattle.std.specs.Prelude.{◌≤◌, length};
 
-// What follows a name in the first line that begins with it, on to the end of the text: nothing where no line does. A loop over the lines that std's `split`
-// gives would not have the rest of the text at hand.
+// What follows a name in the first line that begins with it, on to the end of the text: nothing where no line does.
 pub fn after<'a>(text: &'a [u8], name: &[u8]) -> &'a [u8]
     ensures { length result.now ≤ length text.now }
 {
     let mut rest = text;
-    while rest.len() > 0 {
+    for line in text.split_inclusive(|b| *b == lines::NEWLINE) {
         if let Some(found) = rest.strip_prefix(name) {
             return found;
         }
-        let Some((_, next)) = rest[lines::find(rest, lines::NEWLINE)..].split_first() else {
-            break;
-        };
-        rest = next;
+        rest = &rest[line.len()..];
     }
     &[]
 }

@@ -1,9 +1,7 @@
--- What is left of the text falls.
-use Rattle.std.proofs.Common.{◌≤◌, length}
+-- What is left of the text is as long as what its lines have left.
+use Rattle.std.proofs.Common.{◌≡◌, ◌≤◌, length}
+use Rattle.std.specs.Slice.Iter.{split_inclusive_rest}
 use Rattle.vectors.proofs.values.after.Given as goal
 
-abbrev pub invariant-loop-rest : goal.invariant-loop-rest
-invariant-loop-rest l = length l.rest ≤ length l.text
-
-abbrev pub decreases-loop-rest : goal.decreases-loop-rest
-decreases-loop-rest l = length l.rest
+abbrev pub invariant-loop-line : goal.invariant-loop-line
+invariant-loop-line l = (length l.rest ≡ length (split_inclusive_rest l.line-iterator)) × (length l.rest ≤ length l.text)
