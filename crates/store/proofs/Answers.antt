@@ -2,25 +2,18 @@
 use mathlib.Core.Path.{◌≡◌, sym, ap, ◌∙◌}
 use mathlib.Core.List.{List, []}
 use mathlib.Core.Option.{none}
-use Prim.Native.Nat.{ℕ, ◌^◌, ◌<◌}
-use native.Mathlib.Omega.{arith}
+use Prim.Native.Nat.{ℕ}
 use Rattle.std.specs.Prelude.{Result, Ok, Err}
 use Rattle.std.specs.Result.{IsErr, IsErrAnd}
 use Rattle.refusal.specs.Refusal.{Row, first}
 use Rattle.refusal.specs.Told.{number_of}
 use Rattle.refusal.specs.declared.Refusal.{Refusal}
 use Rattle.refusal.proofs.Again.{some_number}
-use Rattle.state.specs.Sizes.{width, ceiling}
 use Rattle.state.specs.TakePut.{seen, moved, checked, Outcome}
 use Rattle.state.specs.Access.{call}
 use Rattle.state.specs.declared.State.{State}
 use Rattle.state.specs.declared.Checked.{Checked}
 use Rattle.state.proofs.Ready.{call_done, call_refused}
-
--- a clock of the stamp's width that is not the last is below it
-pub clock_below : (t : ℕ) → t < 256 ^ width → (t ≡ ceiling width → ⊥) → t < ceiling width
-unfolding ceiling
-clock_below t h n = omega arith
 
 module _ (rows : List Row) (s : State) (m o : List ℕ) (x : Outcome) where
   pub done_seen : 0 ≡ first rows → x.seen ≡ (call rows s m o x).seen

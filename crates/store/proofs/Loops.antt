@@ -17,7 +17,7 @@ use Rattle.state.specs.TakePut.{take_entry, put_entry}
 use Rattle.state.specs.Check.{opening}
 use Rattle.state.specs.declared.Seal.{Seal}
 use Rattle.state.specs.declared.State.{State}
-use Rattle.state.proofs.Walks.{take_each_below, put_each_below, put_below, puts_length, puts_beyond}
+use Rattle.state.proofs.Walks.{take_each_below, put_each_below, put_below, puts_beyond}
 
 -- n is the next address in use from a on, or the number of addresses
 pub record Next (ws : List ℕ) (a n : ℕ) : Type 0 where
@@ -87,6 +87,3 @@ module _ (w : ℕ) (tag : Seal → Entry → List ℕ) (ws : List ℕ) (s : Stat
         q.0 ∙ ap₂ (λ r v. put_entry tag r (entry a v 1)) p.0 f ∙ sym (state_gap g ∙ state_one a u),
         q.1 ∙ ap₂ (λ k v. write_entry w k (entry a v 1)) p.1 f ∙ sym (store_gap g ∙ store_one a u),
       )
-
-  pub put_length : {n : ℕ} {r : State} {k : List ℕ} → n ≤ addresses → length m ≡ store_size w → Put n r k → length k ≡ store_size w
-  put_length {n = n} h g p = ap length p.1 ∙ puts_length w ws m n h g

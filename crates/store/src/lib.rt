@@ -1,8 +1,9 @@
 // The store: values in bytes that the caller lends and nobody trusts, beside a trusted state that the caller holds.
 // A call that is done gives the state after it; a refused one gives why, and leaves the caller's state and every lent byte as they were.
-#![tactic(auto)]
+#![tactic(auto, using(state::proofs::Ready::add_ready, state::proofs::Ready::exchange_ready, state::proofs::Ready::remove_ready, state::proofs::Ready::check_ready, state::proofs::Ready::look_ready), unfolding(state::specs::Sizes::addresses, state::specs::Sizes::value_size, state::specs::Sizes::cell_size, state::specs::Sizes::store_size, state::specs::Sizes::ceiling))]
 
 mod access;
+mod address;
 mod cells;
 mod checks;
 
@@ -15,6 +16,7 @@ ghost use Rattle.state.specs.Access.{add_of, load_of, store_of, remove_of, look_
 ghost use Rattle.state.specs.Check.{check_of};
 ghost use Rattle.entries.specs.Tag.{tag};
 
+use address::Address;
 use refusal::Refusal;
 use state::{Checked, State, Verdict};
 
@@ -23,7 +25,9 @@ pub fn add(s: State, store: &mut [u8], a: usize, value: &[u8]) -> Result<State, 
     ensures { moved result s store.new [] ≡ (add_of width tag s store.old a value.now).seen }
 {
     numbers::add(s, store, a, value)?;
-    Ok(access::added(s, store, a, value))
+    let store = store.as_mut_array().unwrap();
+    let value = <[u8; State::VALUE]>::try_from(value).unwrap();
+    Ok(access::added(s, store, Address { index: a }, value))
 }
 
 // Takes the value at an address in use, puts it back, and copies it out.
@@ -31,7 +35,9 @@ pub fn load(s: State, store: &mut [u8], a: usize, out: &mut [u8]) -> Result<Stat
     ensures { moved result s store.new out.new ≡ (load_of width tag s store.old a out.old).seen }
 {
     numbers::exchange(s, store, a, out)?;
-    Ok(access::loaded(s, store, a, out))
+    let store = store.as_mut_array().unwrap();
+    let out = out.as_mut_array().unwrap();
+    Ok(access::loaded(s, store, Address { index: a }, out))
 }
 
 // Takes the value at an address in use, and puts a new one.
@@ -39,7 +45,9 @@ pub fn store(s: State, store: &mut [u8], a: usize, value: &[u8]) -> Result<State
     ensures { moved result s store.new [] ≡ (store_of width tag s store.old a value.now).seen }
 {
     numbers::exchange(s, store, a, value)?;
-    Ok(access::stored(s, store, a, value))
+    let store = store.as_mut_array().unwrap();
+    let value = <[u8; State::VALUE]>::try_from(value).unwrap();
+    Ok(access::stored(s, store, Address { index: a }, value))
 }
 
 // Takes the value at an address in use, fills its cell with zeros, and clears its mark.
@@ -47,7 +55,8 @@ pub fn remove(s: State, store: &mut [u8], a: usize) -> Result<State, Refusal>
     ensures { moved result s store.new [] ≡ (remove_of width tag s store.old a).seen }
 {
     numbers::remove(s, store, a)?;
-    Ok(access::removed(s, store, a))
+    let store = store.as_mut_array().unwrap();
+    Ok(access::removed(s, store, Address { index: a }))
 }
 
 // Takes every address in use. Where after that both hashes agree and the fault mark is clear it accepts, and a new period begins; else it says why it rejects,
@@ -56,6 +65,7 @@ pub fn check(s: State, store: &mut [u8]) -> Result<Checked, Refusal>
     ensures { checked result s store.new ≡ (check_of width tag s store.old).seen }
 {
     numbers::check(s, store)?;
+    let store = store.as_mut_array().unwrap();
     let taken = checks::take_each(s, s.marks, store);
     if periods::agrees(taken) {
         let state = checks::put_each(periods::opened(s), s.marks, store);
@@ -75,7 +85,7 @@ pub fn look(store: &[u8], a: usize) -> &[u8]
     ensures { (result.now ≡ look_of width store.now a) × (result.ref_ptr ≡ lies store.entry (look_from width store.now a)) }
 {
     match numbers::look(store, a) {
-        Ok(()) => cells::value_part(store, a),
+        Ok(()) => cells::value_part(store, Address { index: a }),
         Err(_) => &store[0..0],
     }
 }

@@ -3,11 +3,8 @@ use mathlib.Core.Path.{sym, ap, ◌∙◌}
 use Rattle.state.specs.Sizes.{width}
 use Rattle.refusal.proofs.Again.{some_number}
 use Rattle.lent.specs.Lent.{lies}
-use Rattle.state.proofs.Ready.{look_ready, look_done, look_refused}
+use Rattle.state.proofs.Ready.{look_done, look_refused}
 use Rattle.store.proofs.look.Goals as goal
-
-pub value_part-requires : goal.value_part-requires
-value_part-requires c = look_ready width c.args.store.now c.args.a (sym c.in-Ok.ensures)
 
 pub returns-in-Ok : goal.returns-in-Ok
 returns-in-Ok c =

@@ -1,8 +1,10 @@
 -- `store::remove` meets its contract: by whether it is refused. Assumes nothing.
-use mathlib.Core.Path.{sym, ◌∙◌}
+use borrow.Author.Rules.{rules}
+use mathlib.Core.Path.{◌≡◌, ap, ◌∙◌}
 use Rattle.state.specs.Sizes.{width}
-use Rattle.state.specs.Access.{remove_of}
-use Rattle.state.proofs.Ready.{remove_ready}
+use Rattle.state.specs.Access.{remove_of, removed}
+use Rattle.state.specs.TakePut.{Outcome}
+use Rattle.entries.specs.Tag.{tag}
 use Rattle.store.proofs.Answers.{done_seen, refused_moved}
 use Rattle.store.proofs.remove.Goals as goal
 
@@ -10,12 +12,9 @@ pub returns-in_err-remove : goal.returns-in_err-remove
 unfolding remove_of
 returns-in_err-remove c = refused_moved _ _ _ _ _ _ _ c.in_err-remove.ensures c.from_residual.ensures
 
-pub removed-requires : goal.removed-requires
-removed-requires c =
-    let x = c.args in
-    let r = remove_ready width x.s x.store.now x.a (sym c.in_ok-remove.ensures) in
-    (r.size, r.below)
-
 pub returns : goal.returns
 unfolding remove_of
-returns c = c.removed.ensures ∙ done_seen _ _ _ _ _ c.in_ok-remove.ensures
+returns c =
+    let x = c.args in
+    let e : c.unwrap-store.result.now ≡ x.store.now = search rules in
+    c.removed.ensures ∙ ap (λ m. Outcome.seen (removed width tag x.s m x.a)) e ∙ done_seen _ _ _ _ _ c.in_ok-remove.ensures

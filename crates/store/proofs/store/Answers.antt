@@ -1,24 +1,21 @@
 -- `store::store` meets its contract: by whether it is refused. Assumes nothing.
 use borrow.Author.Rules.{rules}
-use mathlib.Core.Path.{sym, ◌∙◌}
-use Prim.Native.Nat.{◌^◌, ◌<◌}
+use mathlib.Core.Path.{◌≡◌, ap₂, ◌∙◌}
 use Rattle.state.specs.Sizes.{width}
-use Rattle.state.specs.Access.{store_of}
-use Rattle.state.proofs.Ready.{exchange_ready}
-use Rattle.store.proofs.Answers.{clock_below, done_seen, refused_moved}
+use Rattle.state.specs.Access.{store_of, stored}
+use Rattle.state.specs.TakePut.{Outcome}
+use Rattle.entries.specs.Tag.{tag}
+use Rattle.store.proofs.Answers.{done_seen, refused_moved}
 use Rattle.store.proofs.store.Goals as goal
 
 pub returns-in_err-exchange : goal.returns-in_err-exchange
 unfolding store_of
 returns-in_err-exchange c = refused_moved _ _ _ _ _ _ _ c.in_err-exchange.ensures c.from_residual.ensures
 
-pub stored-requires : goal.stored-requires
-stored-requires c =
-    let x = c.args in
-    let f : x.s.clock < 256 ^ width = search rules in
-    let r = exchange_ready width x.s x.store.now x.a x.value.now (sym c.in_ok-exchange.ensures) in
-    (r.0.size, r.0.below, r.1.size, clock_below x.s.clock f r.1.time)
-
 pub returns : goal.returns
 unfolding store_of
-returns c = c.stored.ensures ∙ done_seen _ _ _ _ _ c.in_ok-exchange.ensures
+returns c =
+    let x = c.args in
+    let e : c.unwrap-store.result.now ≡ x.store.now = search rules in
+    let v : c.unwrap-value.result ≡ x.value.now = search rules in
+    c.stored.ensures ∙ ap₂ (λ m v. Outcome.seen (stored width tag x.s m x.a v)) e v ∙ done_seen _ _ _ _ _ c.in_ok-exchange.ensures

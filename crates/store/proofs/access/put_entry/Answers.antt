@@ -8,4 +8,4 @@ pub returns : goal.returns
 unfolding write_entry
 returns c =
     let x = c.args in
-    (put_is tag x.s (entry x.a x.value x.stamp) c.with_tag-h.ensures c.tag.ensures, c.write.ensures)
+    (put_is tag x.s (entry x.a.index x.value x.stamp) c.with_tag-h.ensures c.tag.ensures, c.write.ensures)

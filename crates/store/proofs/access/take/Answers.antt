@@ -7,17 +7,17 @@ use Rattle.store.proofs.access.take.Goals as goal
 pub returns-then-not-s : goal.returns-then-not-s
 returns-then-not-s c =
     let x = c.args in
-    take_is width tag x.s x.store.now x.a c.with_tag-h.ensures c.tag.ensures c.value_at-value.ensures c.stamp_at-stamp.ensures
-    (fault_found x.s x.a _ c.if-not-s.true c.if-s-stamp.true)
+    take_is width tag x.s x.store.now x.a.index c.with_tag-h.ensures c.tag.ensures c.value_at-value.ensures c.stamp_at-stamp.ensures
+    (fault_found x.s x.a.index _ c.if-not-s.true c.if-s-stamp.true)
 
 pub returns-else-not-s : goal.returns-else-not-s
 returns-else-not-s c =
     let x = c.args in
-    take_is width tag x.s x.store.now x.a c.with_tag-h.ensures c.tag.ensures c.value_at-value.ensures c.stamp_at-stamp.ensures
-    (fault_stays x.s x.a _ c.if-not-s.false)
+    take_is width tag x.s x.store.now x.a.index c.with_tag-h.ensures c.tag.ensures c.value_at-value.ensures c.stamp_at-stamp.ensures
+    (fault_stays x.s x.a.index _ c.if-not-s.false)
 
 pub returns-else-s-stamp : goal.returns-else-s-stamp
 returns-else-s-stamp c =
     let x = c.args in
-    take_is width tag x.s x.store.now x.a c.with_tag-h.ensures c.tag.ensures c.value_at-value.ensures c.stamp_at-stamp.ensures
-    (fault_none x.s x.a _ c.if-s-stamp.false)
+    take_is width tag x.s x.store.now x.a.index c.with_tag-h.ensures c.tag.ensures c.value_at-value.ensures c.stamp_at-stamp.ensures
+    (fault_none x.s x.a.index _ c.if-s-stamp.false)
