@@ -69,18 +69,6 @@ pub fn added(s: State, store: &mut Store, a: Address, value: [u8; State::VALUE])
     State { marks, ..r }
 }
 
-// Load: a take, and a put of the value read, which is handed out.
-pub fn loaded(s: State, store: &mut Store, a: Address, out: &mut [u8; State::VALUE]) -> State
-    requires { s.clock < ceiling width }
-    ensures { seen 0 none result store.new out.new ≡ (loaded width tag s store.old a.index).seen }
-{
-    let v = crate::cells::value_at(store, a);
-    let t = take(s, store, a);
-    let r = put(t, store, a, v);
-    *out = v;
-    r
-}
-
 // Store: a take, and a put of another value.
 pub fn stored(s: State, store: &mut Store, a: Address, value: [u8; State::VALUE]) -> State
     requires { s.clock < ceiling width }
@@ -88,6 +76,16 @@ pub fn stored(s: State, store: &mut Store, a: Address, value: [u8; State::VALUE]
 {
     let t = take(s, store, a);
     put(t, store, a, value)
+}
+
+// Load: a store of the value read, which is handed out.
+pub fn loaded(s: State, store: &mut Store, a: Address, out: &mut [u8; State::VALUE]) -> State
+    requires { s.clock < ceiling width }
+    ensures { seen 0 none result store.new out.new ≡ (loaded width tag s store.old a.index).seen }
+{
+    let v = crate::cells::value_at(store, a);
+    *out = v;
+    stored(s, store, a, v)
 }
 
 // Remove: a take, zeros in the cell, the mark cleared.
