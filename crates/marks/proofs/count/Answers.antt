@@ -16,12 +16,6 @@ pub loop-word-init : goal.loop-word-init
 unfolding count_below
 loop-word-init c = search rules
 
-pub overflow_add-n : goal.overflow_add-n
-overflow_add-n c =
-    let w : ℕ = get_or c.args.marks c.loop-word.word-index 0 in
-    let f : Fits w64 w = search rules in
-    omega (arith, ones-le 64 w f.fits)
-
 pub loop-word-preserved : goal.loop-word-preserved
 loop-word-preserved c =
     let ws = c.args.marks in

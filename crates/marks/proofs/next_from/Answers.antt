@@ -40,6 +40,3 @@ returns c =
       before = λ b g h. l.invariant b g (omega arith);
       here = λ h. absurd (omega arith);
     }))
-
-pub loop-k-init : goal.loop-k-init
-loop-k-init c = λ b g h. absurd (omega arith)

@@ -1,13 +1,7 @@
 -- `multiset::same_tag` meets its contract: after each turn the byte tells of one place more. Assumes nothing.
-use Rattle.std.proofs.Common.{◌≡◌, ◌∙◌, ⊎_elim, rules}
-use Rattle.multiset.proofs.Apart.{tells_nothing, tells_more, tells_all}
+use Rattle.std.proofs.Common.{◌∙◌, ⊎_elim}
+use Rattle.multiset.proofs.Apart.{tells_more, tells_all}
 use Rattle.multiset.proofs.same_tag.Goals as goal
-
-pub loop-x-init : goal.loop-x-init
-loop-x-init c =
-    let s : c.into_iter-x-iterator.result.a.rest.now ≡ c.args.s = search rules in
-    let t : c.into_iter-x-iterator.result.b.rest.now ≡ c.args.t = search rules in
-    rw (s, t) (tells_nothing _ _ (search rules))
 
 pub loop-x-preserved : goal.loop-x-preserved
 loop-x-preserved c = let e = c.in-Some.ensures.steps in tells_more _ _ _ _ _ (rw (e.0, e.1) at c.loop-x.invariant)

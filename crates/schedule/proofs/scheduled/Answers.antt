@@ -1,7 +1,5 @@
 -- `schedule::scheduled` meets its contract: the first t places hold the first t words of the schedule. Assumes nothing.
 use Rattle.std.proofs.Common.{◌≡◌, ◌++◌, length, set, replicate, sym, ap, ◌∙◌, arith, rules}
-use Rattle.octets.proofs.Places.{fill_end}
-use Rattle.schedule.specs.Schedule.{schedule}
 use Rattle.schedule.proofs.Schedule.{schedule_block, schedule_turn}
 use Rattle.schedule.proofs.scheduled.Goals as goal
 
@@ -12,8 +10,3 @@ loop-t-init c =
 
 pub loop-t-preserved : goal.loop-t-preserved
 loop-t-preserved c = let l = c.loop-t in ap (set l.w l.t) c.next_word.ensures ∙ schedule_turn c.args.block (replicate 64 0) l.w l.t (omega arith) (omega arith) l.invariant
-
-pub returns : goal.returns
-returns c =
-    let e : c.loop-t.t ≡ 64 = omega arith in
-    rw e at c.loop-t.invariant ∙ fill_end (schedule 64 c.args.block) (replicate 64 0) 64 (omega arith)

@@ -1,13 +1,9 @@
 -- `sha256::finish` meets its contract: the loop takes in the padded rest, block after block. Assumes nothing.
-use Rattle.std.proofs.Common.{refl, sym, ◌∙◌, add-one, length, arith, rules}
-use borrow.Author.Tests.{lt-leb}
+use Rattle.std.proofs.Common.{refl, sym, ◌∙◌, add-one, arith}
 use Rattle.sha256.specs.Sha256.{hashed}
 use Rattle.sha256.proofs.Answers.{finish_short}
 use Rattle.sha256.proofs.Padding.{hashed_finished}
 use Rattle.sha256.proofs.finish.Goals as goal
-
-pub returns-then-rest-gt8192 : goal.returns-then-rest-gt8192
-returns-then-rest-gt8192 c = let m = c.args.rest.now in rw (lt-leb (length m) 8192 (search rules))
 
 pub loop-i-init : goal.loop-i-init
 unfolding hashed
