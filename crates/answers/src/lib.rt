@@ -18,7 +18,7 @@ pub enum Name {
     Spoil,
 }
 
-// What a line prints: a command with its number; the byte of a load that was done; a check's verdict, with the address where it rejects for a stamp; or that
+// What a line prints: a command with its number, which is no Result here, since it is what is printed; the byte of a load that was done; a check's verdict, with the address where it rejects for a stamp; or that
 // the line is bad.
 #[derive(Clone, Copy)]
 pub enum Answer {

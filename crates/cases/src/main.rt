@@ -236,7 +236,7 @@ fn filled(seed: u32) -> [u8; 16] {
     p
 }
 
-// The next number of a fixed sequence. It, `bytes` and `hex` stand in `pairs` too: what prints has no contract that tells something, as a library's
+// The next number of a fixed sequence. It, `bytes` and `hex` stand in `pairs` too, and `hex` in `vectors`: what prints has no contract that tells something, as a library's
 // functions here must, and a library for the other two would be longer than both are twice.
 fn next(x: u32) -> u32 {
     x.wrapping_mul(1103515245).wrapping_add(12345)

@@ -1,3 +1,2 @@
-pub mod Spoils
 pub mod Answers
 pub mod Short

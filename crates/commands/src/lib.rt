@@ -15,7 +15,7 @@ use lines::Command;
 use refusal::Refusal;
 use state::{State, Verdict};
 
-// The state after a command, and what is to be printed.
+// The state after a command, and what is to be printed. The state is trusted and goes by value, the store is lent and is not: no struct holds both.
 #[derive(Clone, Copy)]
 pub struct Ran {
     pub state: State,

@@ -16,6 +16,7 @@ fn all_rounds(h: [u32; 8], w: [u32; 64]) -> [u32; 8]
     let mut s = h;
     for turn in 0..8 {
         let t = 8 * turn;
+        // named first: `s = f(s, ..)` gets no proof where s is an array
         let next = (t..t + 8).fold(
             s,
             |s, t| -> [u32; 8]

@@ -22,7 +22,8 @@ pub fn cell(value: [u8; State::VALUE], stamp: u16) -> [u8; State::CELL]
     c
 }
 
-// Is this a store, with a cell of the address?
+// Is this a store, with a cell of the address? The three functions below ask it, and answer for any store and any address; none could fail, and so none gives a
+// Result or asks for a type.
 #[tactic(auto, unfolding(crate::specs::Place::has_cell, state::specs::Sizes::addresses, state::specs::Sizes::value_size, state::specs::Sizes::cell_size, state::specs::Sizes::store_size))]
 fn has_cell(store: &[u8], a: usize) -> bool
     ensures { result ≡ has_cell width store.now a }

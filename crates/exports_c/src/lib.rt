@@ -1,4 +1,5 @@
-// The static library: each call of `exports` under its C name, and with its clauses.
+// The static library: each call of `exports` under its C name, and with its clauses. No crate can name a function of a static library, so the claims are of
+// `exports`, and both stand.
 #![tactic(auto)]
 
 ghost use Rattle.std.specs.Prelude.{◌≡◌, []};

@@ -1,4 +1,5 @@
 // What a caller in another language holds, in plain numbers: the trusted state and a filter record; and each call on them by value, under its own name.
+// C is told numbers: `Result` and `Option` end in this crate, and an answer is a `u8` beside what is left.
 #![tactic(auto)]
 
 ghost use Rattle.std.specs.Prelude.{◌≡◌, List, [], ℕ};
@@ -59,7 +60,7 @@ pub struct Fields {
     pub prefix: [u8; 16],
 }
 
-// A mark is clear where its byte is 0, and else set.
+// A mark is clear where its byte is 0, and else set. Fields that are arrays are named first: they do not go straight into a literal.
 impl From<Held> for State {
     ghost from_gives = { λ h s. s ≡ state_of h };
 

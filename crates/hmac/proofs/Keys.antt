@@ -43,13 +43,6 @@ after_pad b text v e =
     let l = xor_length b (replicate 64 v) (e ∙ sym (length-replicate 64 v)) in
     sym (sha256_append 1 (xor b (replicate 64 v)) text (omega arith))
 
--- ---- the whole, from what the calls give
-pub hash_finished : (inner outer text s d r : List ℕ) → length text ≤ 4096 → length d ≡ 32
-    → s ≡ cond (leb (length text) 8192) (finished inner 1 text) inner → d ≡ hash_bytes s → r ≡ cond (leb (length d) 8192) (finished outer 1 d) outer
-    → r ≡ finished outer 1 (hash_bytes (finished inner 1 text))
-hash_finished inner outer text s d r l n es ed er =
-    er ∙ finish_short d _ _ (omega arith) ∙ ap (finished outer 1) (ed ∙ ap hash_bytes (es ∙ finish_short text _ _ (omega arith)))
-
 pub hmac_finished : (key text b inner outer h : List ℕ) → length b ≡ 64 → b ≡ key_block key → inner ≡ absorbed H0 (xor b ipad) → outer ≡ absorbed H0 (xor b opad)
     → h ≡ finished outer 1 (hash_bytes (finished inner 1 text)) → hash_bytes h ≡ hmac key text
 unfolding hmac

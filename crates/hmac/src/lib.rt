@@ -81,7 +81,7 @@ pub fn mac(key: &[u8], message: &[u8], out: &mut [u8]) -> Result<(), Refusal>
     Ok(())
 }
 
-// The HMAC of a message under a key of 32 bytes; zeros where the message has more than 4,096.
+// The HMAC of a message under a key of 32 bytes; zeros where the message has more than 4,096: it could not fail, and so gives no Result.
 pub fn tag(key: [u8; 32], message: &[u8]) -> [u8; 32]
     ensures { result ≡ tag_within key message.now }
 {

@@ -1,4 +1,4 @@
-// The marks of addresses in use: sixteen 64-bit words by value. The mark of address a is bit a % 64, from the least significant, of word a / 64.
+// The marks of addresses in use: sixteen 64-bit words by value, and no type of their own, as docs/RULES.md has it ("The shape of some places"). The mark of address a is bit a % 64, from the least significant, of word a / 64.
 #![tactic(auto)]
 
 ghost use Rattle.std.specs.Prelude.{◌≡◌, ◌*◌, ◌/◌, ◌≤◌, get_or, set};
@@ -59,7 +59,7 @@ pub fn count(marks: [u64; State::WORDS]) -> u32
     n
 }
 
-// The smallest address that is not in use, or their number: a word's first zero is the first one of its complement.
+// The smallest address that is not in use, or their number, as the end of a range is given: a word's first zero is the first one of its complement.
 pub fn lowest(marks: [u64; State::WORDS]) -> usize
     ensures { result ≡ lowest_free marks }
 {

@@ -18,9 +18,6 @@ pub record Tells (s t : List ℕ) (d : ℕ) (p q : List ℕ) : Type 0 where
   pub equal : d ≡ 0 → p ≡ q → s ≡ t
   pub none : s ≡ t → (d ≡ 0) × (p ≡ q)
 
-pub tells_nothing : (s t : List ℕ) → length s ≡ length t → Tells s t 0 s t
-tells_nothing s t l = record { long = l; equal = λ e f. f; none = λ e. (refl, e) }
-
 pub tells_more : {s t : List ℕ} (d x y : ℕ) (p q : List ℕ) → Tells s t d (x ∷ p) (y ∷ q) → Tells s t (bit_or d (bit_xor x y)) p q
 tells_more d x y p q h =
     record {

@@ -29,7 +29,7 @@ fn same_tag(s: [u8; State::TAG], t: [u8; State::TAG]) -> bool
     apart == 0
 }
 
-// Are two hashes equal: their numbers of elements, which are no secret, and then their tags. In this order a branch on the tags is the answer itself.
+// Are two hashes equal, with no derive, which would stop at the first difference: their numbers of elements, which are no secret, and then their tags. In this order a branch on the tags is the answer itself.
 pub fn same(p: Hash, q: Hash) -> bool
     ensures { result ≡ same_hash p q }
 {

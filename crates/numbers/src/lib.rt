@@ -19,7 +19,7 @@ fn addressed(s: State, store: &[u8], a: usize) -> Result<(), Refusal>
     Refusal::Address.when(!(a < State::ADDRESSES))
 }
 
-// An add's.
+// An add's. Beside an exchange it differs in one row: each reads as its rows do in the table.
 pub fn add(s: State, store: &[u8], a: usize, value: &[u8]) -> Result<(), Refusal>
     ensures { told result ≡ first (add_rows width s store.now a value.now) }
 {

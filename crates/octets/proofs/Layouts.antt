@@ -172,10 +172,6 @@ pub number_join : (w : ℕ) (bs : List ℕ) → length bs ≡ w → number bs �
 unfolding number
 number_join w bs l = rw l
 
-pub number_cons : (b : ℕ) (bs : List ℕ) → number (b ∷ bs) ≡ b * 2 ^ (8 * length bs) + number bs
-unfolding number join
-number_cons b bs = ap (λ (k : ℕ). b * 2 ^ k + join (octets (length bs)) bs) (octets_total (length bs))
-
 pub number_append : (ds bs : List ℕ) → number (ds ++ bs) ≡ number ds * 2 ^ (8 * length bs) + number bs
 unfolding number
 number_append ds bs =

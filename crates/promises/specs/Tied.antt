@@ -10,7 +10,6 @@ use Rattle.refusal.specs.Told.{told}
 use Rattle.filter.specs.Filter.{unpacked}
 use Rattle.lent.specs.Lent.{lies}
 use Rattle.page.specs.Page.{page, whole}
-use Rattle.refusal.specs.Told.{told}
 use Rattle.state.specs.Start.{started}
 use Rattle.state.specs.TakePut.{moved, checked}
 use Rattle.state.specs.contracts.State.start as Start

@@ -84,7 +84,8 @@ pub fn absorb(h: [u32; 8], b: [u8; 64]) -> [u32; 8]
     compress::compressed(h, whole_block(&b, 0))
 }
 
-// The hash after the rest of a message whose first `before` blocks gave h; h itself where the rest has more than 8,192 bytes.
+// The hash after the rest of a message whose first `before` blocks gave h; h itself where the rest has more than 8,192 bytes: it could not fail, and so gives no
+// Result.
 pub fn finish(h: [u32; 8], before: u16, rest: &[u8]) -> [u32; 8]
     ensures { result ≡ cond (leb (length rest.now) 8192) (finished h before rest.now) h }
 {
@@ -94,6 +95,7 @@ pub fn finish(h: [u32; 8], before: u16, rest: &[u8]) -> [u32; 8]
     let blocks = (rest.len() + 72) / 64;
     let mut s = h;
     for i in 0..blocks {
+        // named first: `s = f(s, ..)` gets no proof where s is an array
         let next = compress::compressed(s, padded_block(rest, before, i));
         s = next;
     }

@@ -28,6 +28,8 @@ pub struct State {
     pub take: Hash,
     pub clock: u16,
     pub fault: bool,
+    // No Option of the address, and no type for each state of an open or closed one: what stands here where no fault is set, and in a closed state, is told too
+    // (`Faulted`, `Rejected`), and C holds these numbers.
     // where fault is set: the address of the first take of the period whose stamp was ahead of the clock
     pub first: u16,
     pub closed: bool,

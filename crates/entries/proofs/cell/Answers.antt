@@ -10,12 +10,6 @@ use Rattle.state.specs.Sizes.{width, value_size}
 use Rattle.entries.proofs.Cells.{value_copied}
 use Rattle.entries.proofs.cell.Goals as goal
 
-pub slice_bounds-copy-end-2 : goal.slice_bounds-copy-end-2
-slice_bounds-copy-end-2 c =
-    let l : length c.bytes_2.result ≡ width = search rules in
-    let e = ap length (append-nil c.copy.new.to ∙ c.copy.ensures ∙ copied_all (replicate width 0) c.bytes_2.result (sym l)) in
-    omega arith
-
 pub returns : goal.returns
 unfolding value_size
 returns c =

@@ -34,6 +34,3 @@ returns-then-has_cell c =
     let filling = c.copy.ensures ∙ copied_all _ _ (simp (length-take, length-drop) (omega arith)) ∙ c.cell.ensures in
     rw t
     (ap₂ (λ (k l : List ℕ). take n x.store.now ++ (k ++ l)) filling (Post-is n (n + cell_size width) x.store.now (omega arith)))
-
-pub returns-else-has_cell : goal.returns-else-has_cell
-returns-else-has_cell c = rw (sym c.has_cell.ensures ∙ c.if-has_cell.false)
