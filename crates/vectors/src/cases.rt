@@ -22,7 +22,7 @@ impl Seen {
         self.cases = self.cases.wrapping_add(1);
         if expects(case, &out) {
             self.agree = self.agree.wrapping_add(1);
-        } else if expects(case, &out[..shortest]) {
+        } else if shortest < out.len() && expects(case, &out[..shortest]) {
             self.agree = self.agree.wrapping_add(1);
             self.cut = self.cut.wrapping_add(1);
         }
@@ -100,7 +100,9 @@ pub fn room() -> [u8; 524288]
 }
 
 // Reads a file into its room, and gives the part that it fills.
-pub fn read<'a>(rt: &(impl Files + Print), path: &str, room: &'a mut [u8]) -> io::Result<&'a [u8]> {
+pub fn read<'a>(rt: &(impl Files + Print), path: &str, room: &'a mut [u8]) -> io::Result<&'a [u8]>
+    ensures { IfOk result (λ file. length file.now ≤ length room.old) }
+{
     let mut opened = fs::open(rt, path)?;
     let n = read_full(&mut opened, room)?;
     if n == room.len() {
