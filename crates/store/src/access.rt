@@ -30,7 +30,7 @@ pub fn take(s: State, store: &Store, a: Address) -> State
 
 // Put of an entry: it is written to its cell and joins the put hash; the clock becomes its stamp.
 pub fn put_entry(
-    s: State,
+    mut s: State,
     store: &mut Store,
     a: Address,
     value: [u8; State::VALUE],
@@ -41,11 +41,10 @@ pub fn put_entry(
 {
     crate::cells::write(store, a, value, stamp);
     let h = multiset::with_tag(s.put, entries::tag(s.seal, a.index as u16, value, stamp));
-    State {
-        put: h,
-        clock: stamp,
-        ..s
-    }
+    // field by field: a struct update takes 144 bytes of stack more, and a check then more than docs/CALLING.md has
+    s.put = h;
+    s.clock = stamp;
+    s
 }
 
 // Put: the clock is raised by 1, and is the entry's stamp. That it is below the ceiling stays a clause: a struct around the state for that would be opened for each
