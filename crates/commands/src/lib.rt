@@ -12,8 +12,7 @@ ghost use Rattle.commands.specs.Commands.{spoil_of, check_answer, ran, ran_comma
 
 use answers::{Answer, Name};
 use lines::Command;
-use refusal::Refusal;
-use state::{State, Verdict};
+use state::{Refusal, State, Verdict};
 
 // The state after a command, and what is to be printed. The state is trusted and goes by value, the store is lent and is not: no struct holds both.
 #[derive(Clone, Copy)]

@@ -6,7 +6,8 @@ ghost use Rattle.std.specs.Prelude.{◌≡◌};
 ghost use Rattle.refusal.specs.Told.{told};
 ghost use Rattle.state.specs.Start.{started, start_of, fresh};
 
-use refusal::Refusal;
+// Who calls the store names its refusals from here, and lists no crate for them.
+pub use refusal::Refusal;
 
 // The hash of a multiset: the exclusive-or of its tags, and how many elements it has, modulo 2^32.
 #[derive(Clone, Copy)]
