@@ -45,7 +45,7 @@ impl Name {
     }
 }
 
-// Writes the line that an answer is.
+// Writes the line that an answer is: at once, where it is always the same.
 pub fn say(page: &mut Page, answer: Answer)
     ensures { page.new ≡ written page.old (said answer) }
 {
@@ -59,13 +59,13 @@ pub fn say(page: &mut Page, answer: Answer)
             page.put(b"load 0 ");
             page.put_hex(b);
         },
-        Answer::Accepted => page.put(b"check accept"),
+        Answer::Accepted => return page.put(b"check accept\n"),
         Answer::Stamp(a) => {
             page.put(b"check reject stamp ");
             page.put_decimal(a);
         },
-        Answer::Tag => page.put(b"check reject tag"),
-        Answer::Bad => page.put(b"bad"),
+        Answer::Tag => return page.put(b"check reject tag\n"),
+        Answer::Bad => return page.put(b"bad\n"),
     }
     page.put(b"\n");
 }

@@ -2,7 +2,7 @@
 // gives. docs/CONFORMANCE.md says how a site uses them.
 #![tactic(auto)]
 
-use filter::{Action, Family, FilterRecord};
+use filter::{Action, Family, FilterRecord, Unpacked};
 use std::io;
 
 fn main(rt: HostRuntime) -> io::Result<()> {
@@ -245,17 +245,23 @@ fn next(x: u32) -> u32 {
 // A case: the bytes, the number, and the fields.
 fn show(rt: &impl Print, b: &[u8]) -> io::Result<()> {
     let u = filter::unpack(b);
+    hex(rt, b)?;
+    numbers(rt, u)?;
+    hex(rt, &u.filter.prefix)?;
+    println!(rt)
+}
+
+// The number and the fields before the prefix. A function of its own, since `hex` would else be called with the room for this line still on the stack.
+#[inline(never)]
+fn numbers(rt: &impl Print, u: Unpacked) -> io::Result<()> {
     let r = u.filter;
     let number = refusal::told(u.answer);
     let family = u8::from(r.family);
     let action = u8::from(r.action);
-    hex(rt, b)?;
     print!(rt;
         " {number} {family} {action} {} {} {} {} ",
         r.length, r.longest, r.member, r.serial
-    )?;
-    hex(rt, &r.prefix)?;
-    println!(rt)
+    )
 }
 
 fn hex(rt: &impl Print, b: &[u8]) -> io::Result<()> {
