@@ -1,10 +1,8 @@
 -- A key's block exclusive-or a pad is one block, so each hash of HMAC is finished from the hash after it. Assumes nothing.
 use mathlib.Core.Path.{◌≡◌, sym, ap, ap₂, ◌∙◌}
-use mathlib.Core.Bool.{cond}
 use mathlib.Core.List.{List, ◌++◌}
 use Prim.Native.Nat.{ℕ, ◌+◌, ◌-◌, ◌<◌, ◌≤◌}
 use native.Mathlib.Omega.{arith}
-use lib.Dec.{leb}
 use lib.ListN.{length, drop, replicate, length-replicate, replicate-append-replicate}
 use lib.Seq.{drop_at}
 use borrow.Author.Tests.{lt-ltb, le-ltb}
@@ -12,7 +10,6 @@ use Rattle.octets.specs.Places.{xor}
 use Rattle.octets.proofs.Places.{xor_length}
 use Rattle.constants.specs.Constants.{H0}
 use Rattle.sha256.specs.Sha256.{absorbed, hash_bytes, sha256, finished}
-use Rattle.sha256.proofs.Answers.{finish_short}
 use Rattle.sha256.proofs.Blocks.{sha256_append}
 use Rattle.hmac.specs.Hmac.{ipad, opad, short_key, zero_filled, key_block, hmac}
 

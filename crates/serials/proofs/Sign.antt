@@ -15,7 +15,6 @@ signed_high up l = ap (λ t. cond t (pos up) (pos up -ℤ pos (2 ^ 32))) (le-ltb
 pub signed_below : (up n : ℕ) → 2 ^ 31 ≤ up → up + suc n ≡ 2 ^ 32 → signed_of up ≡ negsuc n
 signed_below up n l e = signed_high up l ∙ omega (arith, ints, e)
 
--- -1 - n
 -- as the bits of an `i32` are read
 pub signed : (up : ℕ) → up < 2 ^ 32 → to_z w32 up ≡ signed_of up
 unfolding signed_of

@@ -17,7 +17,7 @@ use Rattle.std.proofs.lemmas.List.Sums.{position_or_len_is}
 use Rattle.text.specs.Text.{ascii}
 use Rattle.page.specs.declared.Page.{Page}
 use Rattle.page.specs.Written.{written}
-use Rattle.page.proofs.Pages.{written_written}
+use Rattle.page.proofs.Pages.{written_written, written_none}
 use Rattle.lines.specs.Grammar.{newline, lines_in}
 use Rattle.lines.specs.Parse.{parsed}
 use Rattle.lines.specs.declared.Command.{Command}
@@ -62,6 +62,15 @@ pub no_lines : (s : State) (m l : List ℕ) → length l ≡ 0 → output_of s m
 unfolding output_of
 no_lines s m [] e = ap (output_of s m) lines_none
 no_lines s m (x ∷ xs) e = absurd (omega arith)
+
+-- p with what the lines of `rest` print written after it is g with ls written after it
+pub record Left (p g : Page) (ls : List ℕ) (s : State) (m rest : List ℕ) : Type 0 where
+  pub within : p.at ≤ length p.bytes.now
+  pub whole : written p (output_of s m (lines_in rest)) ≡ written g ls
+
+-- where no line is left, all is written
+pub run_out : (p g : Page) (ls : List ℕ) (s : State) (m rest : List ℕ) → Left p g ls s m rest → length rest ≡ 0 → p ≡ written g ls
+run_out p g ls s m rest l e = sym (written_none p l.within) ∙ ap (written p) (sym (no_lines s m rest e)) ∙ l.whole
 
 -- a whole session, by its size
 pub session_long : (input : List ℕ) → 4096 < length input → session_of input ≡ ascii "too long\n"

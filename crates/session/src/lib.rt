@@ -33,6 +33,7 @@ pub fn run(input: &[u8], out: &mut [u8; ROOM]) -> usize
 }
 
 // Runs each line of an input. What follows a last newline is a line only if it is not empty: std's `split` would give an empty one.
+#[tactic(auto, using(crate::proofs::Turns::run_out))]
 fn run_lines(s: State, store: &mut [u8; State::STORE], input: &[u8], page: &mut Page)
     requires { page.old.at ≤ length page.old.bytes.now }
     ensures { page.new ≡ written page.old (output_of s store.old (lines_in input.now)) }

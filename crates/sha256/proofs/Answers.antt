@@ -1,4 +1,4 @@
--- What the calls give, by the sizes of what they are given: a call with one row is refused where the row holds, and else done. Assumes nothing.
+-- What the calls give, by the sizes of what they are given: a call whose one row does not hold is done. Assumes nothing.
 use mathlib.Core.Path.{◌≡◌, sym, ap, ◌∙◌}
 use mathlib.Core.Bool.{false, cond}
 use mathlib.Core.List.{List}

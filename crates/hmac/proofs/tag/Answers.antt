@@ -12,7 +12,7 @@ returns-then-message-le4096 c =
     let a = c.args in
     let n : length a.key ≡ 32 = search rules in
     c.tag.ensures
-    ∙ hmac_finished a.key a.message.now c.zero_filled.result _ _ _ (search rules) (c.zero_filled.ensures ∙ key_short a.key (omega arith)) c.new.ensures.inner c.new.ensures.outer refl
+    ∙ hmac_finished a.key a.message.now c.zero_filled.result _ _ _ (search rules) (c.zero_filled.ensures ∙ key_short a.key (omega arith)) (search rules) (search rules) refl
     ∙ sym (tag_short a.key a.message.now (omega arith))
 
 pub returns : goal.returns

@@ -1,6 +1,6 @@
 -- `session::run_lines` meets its contract: what is written, and then what the lines that are left print, is what the whole session prints. Assumes nothing.
 use Rattle.std.proofs.Common.{rules, ℕ, List, Bor}
-use mathlib.Core.Path.{sym, ap, ◌∙◌}
+use mathlib.Core.Path.{ap, ◌∙◌}
 use mathlib.Core.List.{[], ◌∷◌}
 use lib.Dec.{eqb}
 use Rattle.std.proofs.lemmas.Fn.{always_returns_same}
@@ -9,9 +9,9 @@ use Rattle.std.proofs.lemmas.Bool.Decides.{Decides-eqb}
 use Rattle.lines.specs.Parse.{parsed}
 use Rattle.lines.specs.Grammar.{newline}
 use Rattle.page.specs.Written.{written}
-use Rattle.page.proofs.Pages.{written_within, written_none}
+use Rattle.page.proofs.Pages.{written_within}
 use Rattle.session.specs.Session.{output_of}
-use Rattle.session.proofs.Turns.{turn, first_line, no_lines}
+use Rattle.session.proofs.Turns.{turn, first_line}
 use Rattle.session.proofs.run_lines.Goals as goal
 
 pub loop-part-preserved : goal.loop-part-preserved
@@ -20,16 +20,10 @@ loop-part-preserved c =
     let k = c.in-Some.ensures.steps in
     let part = c.in-Some.part in
     let strip = strip_suffix_is Decides-eqb part.now (newline ∷ []) c.strip_suffix.result (search rules) in
-    let at = k.1.2 (λ b. eqb b newline) (always_returns_same _ _ _ (λ x b q k. search rules)) in (
-      written_within _ _ _ c.say.ensures,
-      turn _ _ _ _ _ _ _ _ (c.parse.ensures ∙ ap (λ (x : Bor (List ℕ)). parsed x.now) c.unwrap_or-line.ensures) c.run-ran.ensures c.say.ensures
+    let at = k.1.2 (λ b. eqb b newline) (always_returns_same _ _ _ (λ x b q k. search rules)) in
+    record {
+      within = written_within _ _ _ c.say.ensures;
+      whole = turn _ _ _ _ _ _ _ _ (c.parse.ensures ∙ ap (λ (x : Bor (List ℕ)). parsed x.now) c.unwrap_or-line.ensures) c.run-ran.ensures c.say.ensures
           ∙ ap (λ ls. written l.page (output_of l.state l.store ls)) (first_line _ part _ _ k.1.0 strip k.0 k.1.1 at.1 k.2)
-          ∙ l.invariant.1,
-    )
-
-pub returns : goal.returns
-returns c =
-    let l = c.loop-part in
-    sym (written_none l.page l.invariant.0)
-    ∙ ap (written l.page) (sym (no_lines l.state l.store _ c.in-None.ensures.steps.0))
-    ∙ l.invariant.1
+          ∙ l.invariant.whole;
+    }

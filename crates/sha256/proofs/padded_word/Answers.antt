@@ -1,14 +1,20 @@
 -- `sha256::padded_word` meets its contract: the word lies in the message, or is the count's last, or has zeros only, or has the mark. Assumes nothing.
-use Rattle.std.proofs.Common.{◌+◌, ◌*◌, length, sym, ◌∙◌, arith}
+use Rattle.std.proofs.Common.{◌+◌, ◌*◌, length, get_or, sym, ◌∙◌, arith}
 use Rattle.octets.proofs.Layouts.{number_4}
 use Rattle.sha256.specs.Sha256.{padded}
-use Rattle.sha256.proofs.Blocks.{word_first}
+use Rattle.sha256.proofs.Blocks.{word_first, word_get_d}
 use Rattle.sha256.proofs.Padding.{word_count, word_zero, word_marked}
 use Rattle.sha256.proofs.padded_word.Goals as goal
 
 pub returns-then-i-len : goal.returns-then-i-len
 unfolding padded
-returns-then-i-len c = let a = c.args in c.word_at.ensures ∙ sym (word_first a.rest.now _ a.i (omega arith))
+returns-then-i-len c =
+    let a = c.args in
+    let r = a.rest.now in
+    c.from_be_bytes.ensures
+    ∙ number_4 (get_or r a.i 0) (get_or r (a.i + 1) 0) (get_or r (a.i + 2) 0) (get_or r (a.i + 3) 0)
+    ∙ sym (word_get_d r a.i (omega arith))
+    ∙ sym (word_first r _ a.i (omega arith))
 
 pub returns-then-i-len-2 : goal.returns-then-i-len-2
 returns-then-i-len-2 c = let a = c.args in sym (word_count (64 * a.before + length a.rest.now) a.rest.now (omega arith) (omega arith) a.i (omega arith))
