@@ -41,6 +41,7 @@ fn padded_word(rest: &[u8], before: u16, i: usize) -> u32
 {
     let len = rest.len();
     if i + 4 <= len {
+        // not by `word_at`, which is of whole blocks: a mistake there leaves this right (`absorb_bytes_swapped`)
         return u32::from_be_bytes([rest[i], rest[i + 1], rest[i + 2], rest[i + 3]]);
     }
     if i + 4 == (len + 72) / 64 * 64 {
